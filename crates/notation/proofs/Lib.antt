@@ -1,0 +1,11 @@
+pub mod Answered
+pub mod Closing
+pub mod Drafting
+pub mod Effects
+pub mod Following
+pub mod Law
+pub mod Making
+pub mod Resuming
+pub mod Shape
+pub mod Showing
+pub mod Spelling

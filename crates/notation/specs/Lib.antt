@@ -1,0 +1,9 @@
+pub mod Causes
+pub mod Changes
+pub mod Drafts
+pub mod Faults
+pub mod Grammar
+pub mod Meaning
+pub mod Reading
+pub mod Tokens
+pub mod Written

@@ -1,0 +1,4 @@
+pub mod Causes
+pub mod Code
+pub mod Rows
+pub mod Text
