@@ -110,10 +110,10 @@ double-all ws bs hand back false l h =
     subst (λ m. Holding false hand (ws ++ (bs ++ m))) (take-all (back - 1) (mirrored bs) (omega (arith, mirrored-long bs))) h
 
 -- what is read from the list is what is listed there
-pub listed-at : (c : Changes) (i : ℕ) (x : Change) → i < c .count → x ≡ getD (c .list) i x → x .made ≡ getD (listed c) i []
-listed-at c i x l e =
+pub listed-at : (c : Changes) (i : ℕ) (d : Change) → i < c .count → getD (c .list) i d .made ≡ getD (listed c) i []
+listed-at c i d l =
     let long : length (take (c .count) (c .list)) ≡ c .count = length-take-le (c .count) (c .list) (let r = c .room in let f = c .few in omega arith) in
-    ap made-in (e ∙ sym (getD-take (c .count) (c .list) i x l)) ∙ sym (getD-map made-in (take (c .count) (c .list)) i x [] (omega arith))
+    ap made-in (sym (getD-take (c .count) (c .list) i d l)) ∙ sym (getD-map made-in (take (c .count) (c .list)) i d [] (omega arith))
 
 -- where a draft is not over its limit, its changes are as many as those that it holds
 pub held-long : (c : Changes) (cs : List (List Bool)) → Holding false (listed c) cs → c .count ≡ length cs

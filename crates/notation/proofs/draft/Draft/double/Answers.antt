@@ -2,9 +2,9 @@ use Prim.Native.Nat.{_+_, _-_, _<_, _≤_}
 use lib.ListN.{length, take}
 use mathlib.Core.Bool.{false}
 use mathlib.Core.List.{_++_}
-use mathlib.Core.Path.{_≡_, sym, ap, subst, _∙_}
+use mathlib.Core.Path.{_≡_, subst, _∙_}
 use native.Mathlib.Omega.{arith}
-use Rattle.notation.proofs.Drafting.{double-all, double-more, held-long, listed-at, made-in, mirrored, was-down}
+use Rattle.notation.proofs.Drafting.{double-all, double-more, held-long, listed-at, mirrored, was-down}
 use Rattle.notation.proofs.draft.Draft.double.Needs as need
 use Rattle.notation.specs.Drafts.{listed, Holding}
 use Rattle.std.proofs.shelf.Lists.{length-append}
@@ -29,7 +29,7 @@ loop-back-again c =
           (λ o.
           let f = facts o in
           let long = held-long (self .changes) (ws ++ (bs ++ added)) (subst (λ x. Holding x (listed (self .changes)) (ws ++ (bs ++ added))) o ih) in
-          ap made-in (sym (c .index-self-end .is)) ∙ listed-at (self .changes) (first .changes .count - 1 - c .loop-back .back) (c .index-self-end .result) (omega (arith, f .0, f .1, long, length-append ws (bs ++ added), length-append bs added)) (c .index-self-end .is))
+          listed-at (self .changes) (first .changes .count - 1 - c .loop-back .back) (c .index-self-end .result) (omega (arith, f .0, f .1, long, length-append ws (bs ++ added), length-append bs added)))
           ih (c .push .ensures .holds),
       c .push .ensures .from ∙ c .loop-back .inv .1,
       λ e. c .push .ensures .over (stays e),

@@ -1,0 +1,4 @@
+pub mod Examples
+pub mod Leading
+pub mod Storing
+pub mod Taking
