@@ -1,5 +1,7 @@
 // What a refusal says: the number of its cause, and the values that go with it.
+ghost use Rattle.causes.specs.Shown.{cause-shown};
 ghost use Rattle.causes.specs.declared.Cause.{Cause};
+ghost use Rattle.std.specs.declared.option.Option.the-variants.{Some};
 ghost use denote.Ref.{now};
 ghost use mathlib.Core.Path.{_≡_};
 use std::fmt;
@@ -26,6 +28,8 @@ pub trait Refusal {
 }
 
 pub impl fmt::Display for Cause as CauseDisplay {
+    ghost shown = { λ c. Some (cause-shown c) };
+
     fn fmt<W: fmt::Write>(&self, f: &mut fmt::Formatter<W>) -> fmt::Result {
         let number = self.number;
         match self.values {

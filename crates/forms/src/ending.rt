@@ -8,7 +8,7 @@ ghost use mathlib.Core.Path.{_≡_};
 use notation::changes::Changes;
 
 // The lead in which these changes replace as many at its end; none if it has not as many.
-pub fn with_ending(lead: &Changes, ending: &Changes) -> Option<Changes>
+pub(crate) fn with_ending(lead: &Changes, ending: &Changes) -> Option<Changes>
     ensures { λ r. ⌜ Cases r (length (listed (now (lead .entry))) < length (listed (now (ending .entry)))) (λ c. (length (listed (now (ending .entry))) ≤ length (listed (now (lead .entry)))) × (listed c ≡ take (length (listed (now (lead .entry))) - length (listed (now (ending .entry)))) (listed (now (lead .entry))) ++ listed (now (ending .entry)))) ⌝ }
 {
     if lead.count < ending.count {

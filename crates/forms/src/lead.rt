@@ -11,7 +11,7 @@ use rows::product::RowEq;
 use rows::row::Row;
 
 // r(0), which is rounds, to r(L), the turn.
-pub fn lead_rows(changes: &Changes) -> [Row; 65]
+pub(crate) fn lead_rows(changes: &Changes) -> [Row; 65]
     ensures { λ r. ⌜ map bells-of (take (suc (now (changes .entry) .count)) r) ≡ lead-rows (listed (now (changes .entry))) ⌝ }
 {
     let rounds = Row::rounds();
@@ -24,7 +24,7 @@ pub fn lead_rows(changes: &Changes) -> [Row; 65]
 }
 
 // The first place below `count` whose row stood already, and the place before it where it stood.
-pub fn first_repeat(rows: &[Row; 65], count: usize) -> Option<(usize, usize)>
+pub(crate) fn first_repeat(rows: &[Row; 65], count: usize) -> Option<(usize, usize)>
     requires { ⌜ count ≤ 65 ⌝ }
     ensures { λ r. ⌜ Repeat-in (map bells-of (now (rows .entry))) count r ⌝ }
 {

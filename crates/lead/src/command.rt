@@ -9,10 +9,21 @@ ghost use mathlib.Core.Path.{_≡_};
 pub enum Command<'a> {
     // nothing to answer
     Blank,
-    Stage { bells: usize },
-    Method { letter: u8, notation: &'a [u8] },
-    Call { letter: u8, mark: u8, notation: &'a [u8] },
-    Unknown { word: &'a [u8] },
+    Stage {
+        bells: usize,
+    },
+    Method {
+        letter: u8,
+        notation: &'a [u8],
+    },
+    Call {
+        letter: u8,
+        mark: u8,
+        notation: &'a [u8],
+    },
+    Unknown {
+        word: &'a [u8],
+    },
 }
 
 // How many bytes stand before the first of this value.
@@ -64,7 +75,9 @@ fn number(text: &[u8]) -> Option<usize>
         if *byte < b'0' || *byte > b'9' {
             return None;
         }
-        number = number.saturating_mul(10).saturating_add((*byte - b'0') as usize);
+        number = number
+            .saturating_mul(10)
+            .saturating_add((*byte - b'0') as usize);
     }
     Some(number)
 }
@@ -88,7 +101,11 @@ fn call<'a>(arguments: &'a [u8]) -> Option<Command<'a>> {
     let (mark, notation) = cut(rest, b' ')?;
     let letter = single(letter);
     let mark = single(mark);
-    Some(Command::Call { letter, mark, notation })
+    Some(Command::Call {
+        letter,
+        mark,
+        notation,
+    })
 }
 
 fn stage<'a>(arguments: &'a [u8]) -> Option<Command<'a>> {

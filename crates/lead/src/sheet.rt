@@ -29,7 +29,11 @@ pub struct Sheet {
 }
 
 // A refusal: its number, its values, and what it means.
-fn refuse<R: Refusal + Display>(word: &str, refusal: &R, out: &mut BufWriter<Stdout>) -> io::Result<()> {
+fn refuse<R: Refusal + Display>(
+    word: &str,
+    refusal: &R,
+    out: &mut BufWriter<Stdout>,
+) -> io::Result<()> {
     let cause = refusal.cause();
     writeln!(out, "{word}: {cause} ({refusal})")
 }
@@ -46,7 +50,13 @@ fn print_bells(row: &Row, bells: u8, out: &mut BufWriter<Stdout>) -> io::Result<
 }
 
 // The answer to an accepted form, and its rows.
-fn print_form(word: &str, number: usize, form: &Form, bells: u8, out: &mut BufWriter<Stdout>) -> io::Result<()> {
+fn print_form(
+    word: &str,
+    number: usize,
+    form: &Form,
+    bells: u8,
+    out: &mut BufWriter<Stdout>,
+) -> io::Result<()> {
     let count = form.changes.count;
     write!(out, "{word}: form {number}, {count} changes, turn ")?;
     print_bells(&form.turn(), bells, out)?;
@@ -61,7 +71,12 @@ fn print_form(word: &str, number: usize, form: &Form, bells: u8, out: &mut BufWr
     Ok(())
 }
 
-fn print_added(word: &str, added: Result<usize, FormFault>, forms: &Forms<Open>, out: &mut BufWriter<Stdout>) -> io::Result<()> {
+fn print_added(
+    word: &str,
+    added: Result<usize, FormFault>,
+    forms: &Forms<Open>,
+    out: &mut BufWriter<Stdout>,
+) -> io::Result<()> {
     match added {
         Ok(number) => match forms.list.get(number) {
             Some(form) => print_form(word, number, form, forms.stage.bells, out),
@@ -88,7 +103,12 @@ impl Sheet {
         }
     }
 
-    fn method(&mut self, letter: u8, notation: &[u8], out: &mut BufWriter<Stdout>) -> io::Result<()> {
+    fn method(
+        &mut self,
+        letter: u8,
+        notation: &[u8],
+        out: &mut BufWriter<Stdout>,
+    ) -> io::Result<()> {
         let Some(forms) = &mut self.forms else {
             return writeln!(out, "method: no stage yet");
         };
@@ -96,7 +116,13 @@ impl Sheet {
         print_added("method", added, forms, out)
     }
 
-    fn call(&mut self, letter: u8, mark: u8, notation: &[u8], out: &mut BufWriter<Stdout>) -> io::Result<()> {
+    fn call(
+        &mut self,
+        letter: u8,
+        mark: u8,
+        notation: &[u8],
+        out: &mut BufWriter<Stdout>,
+    ) -> io::Result<()> {
         let Some(forms) = &mut self.forms else {
             return writeln!(out, "call: no stage yet");
         };
@@ -109,7 +135,11 @@ impl Sheet {
             Command::Blank => Ok(()),
             Command::Stage { bells } => self.stage(bells, out),
             Command::Method { letter, notation } => self.method(letter, notation, out),
-            Command::Call { letter, mark, notation } => self.call(letter, mark, notation, out),
+            Command::Call {
+                letter,
+                mark,
+                notation,
+            } => self.call(letter, mark, notation, out),
             Command::Unknown { word } => {
                 out.write_all(word)?;
                 out.write_all(b": not understood\n")

@@ -44,7 +44,7 @@ pub struct Draft {
 }
 
 impl Draft {
-    pub fn new() -> Draft
+    pub(crate) fn new() -> Draft
         ensures drafted { λ r. ⌜ ((n : ℕ) → Drafted n r start) ⌝ }
         ensures seen { λ r. ⌜ r .seen ≡ Fresh ⌝ }
     {
@@ -92,6 +92,7 @@ impl Draft {
     fn double(&mut self)
         ensures holds { λ _. ⌜ ((ws bs : List (List Bool)) → (now (self .entry) .over ≡ false → now (self .entry) .block ≡ length ws) → Holds (now (self .entry)) (ws ++ bs) → Holds (now (self .exit)) (ws ++ (bs ++ drop 1 (reverse bs)))) ⌝ }
         ensures from { λ _. ⌜ now (self .exit) .from ≡ now (self .entry) .from ⌝ }
+        ensures seen { λ _. ⌜ now (self .exit) .seen ≡ now (self .entry) .seen ⌝ }
     {
         let end = self.changes.count;
         for back in 1..end.saturating_sub(self.block) {
@@ -104,6 +105,7 @@ impl Draft {
     fn close(&mut self, next: usize) -> Result<(), Fault>
         ensures steps { λ r. ⌜ ((n : ℕ) (st : State) → Drafted n (now (self .entry)) st → Steps n (close next st) r (now (self .exit))) ⌝ }
         ensures few { λ r. ⌜ made r (λ _. now (self .exit) .over ≡ false) ⌝ }
+        ensures seen { λ _. ⌜ now (self .exit) .seen ≡ now (self .entry) .seen ⌝ }
     {
         if self.doubles {
             self.double();
@@ -181,7 +183,7 @@ impl Draft {
         Ok(())
     }
 
-    pub fn take(&mut self, stage: Stage, token: Token) -> Result<(), Fault>
+    pub(crate) fn take(&mut self, stage: Stage, token: Token) -> Result<(), Fault>
         requires { ⌜ position token < 2 ^ 64 - 1 ⌝ }
         ensures steps { λ r. ⌜ ((st : State) → Drafted (stage .bells) (now (self .entry)) st → Steps (stage .bells) (stepped (stage .bells) (token .entry) (now (self .entry) .seen) st) r (now (self .exit))) ⌝ }
         ensures seen { λ r. ⌜ made r (λ _. now (self .exit) .seen ≡ seen-behind (token .entry) (now (self .entry) .seen)) ⌝ }
@@ -198,7 +200,7 @@ impl Draft {
     }
 
     // The text ends here.
-    pub fn finish(mut self, at: usize) -> Result<Changes, Fault>
+    pub(crate) fn finish(mut self, at: usize) -> Result<Changes, Fault>
         ensures { λ r. ⌜ ((n : ℕ) (st : State) → Drafted n self st → Answers n (finished at (self .seen) st) r) ⌝ }
     {
         match self.seen {

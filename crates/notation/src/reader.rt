@@ -18,3 +18,21 @@ pub fn read(stage: Stage, text: &[u8]) -> Result<Changes, Fault>
     }
     draft.finish(text.len())
 }
+
+#[cfg(test)]
+mod tests {
+    use super::*;
+    use crate::fault::FaultDebug;
+    use crate::fault::FaultPartialEq;
+    use rows::fault::RowFaultDebug;
+    use std::test::*;
+
+    #[test]
+    fn plain_bob() -> Result<(), Fail> {
+        let four = Stage::new(4)?;
+        check_eq(read(four, b"&-14-14,12")?.count, 8)?;
+        check_eq(read(four, b"&-14-1z").err(), Some(Fault::Byte(6)))?;
+        let five = Stage::new(5)?;
+        check_eq(read(five, b"-").err(), Some(Fault::Unrung(0)))
+    }
+}

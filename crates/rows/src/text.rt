@@ -93,3 +93,26 @@ impl Row {
         characters
     }
 }
+
+#[cfg(test)]
+mod tests {
+    use super::*;
+    use crate::card::inverse_code;
+    use crate::fault::RowFaultDebug;
+    use crate::fault::RowRefusal;
+    use causes::Refusal;
+    use std::test::*;
+
+    #[test]
+    fn six_bells() -> Result<(), Fail> {
+        let six = Stage::new(6)?;
+        let row = Row::read(six, b"135264")?;
+        check_eq(row.code(), 252)?;
+        check_eq(inverse_code(252)?, 170)?;
+        check_eq(Row::read(six, b"142635")?.code(), 170)?;
+        let long = Row::read(six, b"1352645").err().ok_or("seven characters")?;
+        check_eq(long.cause().number, 28)?;
+        let twice = Row::read(six, b"135244").err().ok_or("the 4 twice")?;
+        check_eq(twice.cause().number, 28)
+    }
+}

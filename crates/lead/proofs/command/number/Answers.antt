@@ -15,14 +15,13 @@ returns-then-byte-lt48 c =
     let text = c .args .text .now in
     let i = c .loop-byte .byte-index in
     let out : (getD text i 0 < 48) ⊎ (57 < getD text i 0) =
-        elim (c .then-byte-lt48 .came) [ then-byte-lt48·by·then-byte-lt48 w ↦ inl (w .if-byte-lt48 .taken) | then-byte-lt48·by·else-byte-lt48·then-byte-gt57 w ↦ inr (w .if-byte-gt57 .taken) ] in
+    elim (c .then-byte-lt48 .came) [ then-byte-lt48·by·then-byte-lt48 w ↦ inl (w .if-byte-lt48 .taken) | then-byte-lt48·by·else-byte-lt48·then-byte-gt57 w ↦ inr (w .if-byte-gt57 .taken) ] in
     digits-some text (omega arith) ∙ digits-not text i (omega arith) out (c .loop-byte .inv .0)
 
 pub loop-byte-again : need.loop-byte-again
 loop-byte-again c =
     let text = c .args .text .now in
-    let i = c .loop-byte .byte-index in
-    (
+    let i = c .loop-byte .byte-index in (
       digits-more text i (omega arith) (c .if-byte-lt48 .left) (c .if-byte-gt57 .left) (c .loop-byte .inv .0),
       c .saturating-add-number .ensures ∙ ap (λ k. min (k + (getD text i 0 - 48)) 18446744073709551615) (c .saturating-mul .ensures) ∙ value-more text i (c .loop-byte .number) (omega arith) (c .loop-byte .inv .1),
     )
@@ -30,8 +29,7 @@ loop-byte-again c =
 pub returns : need.returns
 returns c =
     let text = c .args .text .now in
-    let some : 0 < length text = omega (arith, eqb-false (length text) 0 (sym (c .if-is-empty .ensures tt))) in
-    (
+    let some : 0 < length text = omega (arith, eqb-false (length text) 0 (sym (c .if-is-empty .ensures tt))) in (
       digits-some text some ∙ digits-all text (c .loop-byte .byte-index) (omega arith) (c .loop-byte .inv .0),
       c .loop-byte .inv .1 ∙ ap (λ t. min (value t) 18446744073709551615) (take-all (c .loop-byte .byte-index) text (omega arith)),
     )

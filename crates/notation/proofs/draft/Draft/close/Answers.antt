@@ -32,6 +32,11 @@ whole c n st d =
       )
     ]
 
+-- what was seen last stays
+same-seen : (c : Joined-self) → c .if-self .self .seen ≡ c .args .self .now .seen
+same-seen c =
+    elim (c .if-self .came) [ then-self w ↦ ap (λ (x : Draft). x .seen) (w .self-is) ∙ w .double .ensures .seen | else-self w ↦ ap (λ (x : Draft). x .seen) (w .self-is) ]
+
 pub returns-then-self-2 : need.returns-then-self-2
 returns-then-self-2 c = record {
   steps = λ n st d.
@@ -39,6 +44,7 @@ returns-then-self-2 c = record {
       close-many n st _ (c .args .next) (subst (λ o. Holding o (listed (c .if-self .self .changes)) (map (made n) (all-changes st))) (c .if-self-2 .taken) (h .0))
       ∙ ap (λ k. halts (Many k)) (sym (h .1));
   few = tt;
+  seen = same-seen (need.at·returns-then-self-2 c .Joined-self);
 }
 
 pub returns : need.returns
@@ -57,4 +63,5 @@ returns c = record {
         },
       );
   few = c .if-self-2 .left;
+  seen = same-seen (need.at·returns c .Joined-self);
 }

@@ -33,6 +33,7 @@ loop-back-again c =
           ih (c .push .ensures .holds),
       c .push .ensures .from ∙ c .loop-back .inv .1,
       λ e. c .push .ensures .over (stays e),
+      c .push .ensures .seen ∙ c .loop-back .inv .3,
     )
 
 pub returns : need.returns
@@ -50,4 +51,5 @@ returns c =
           omega arith)
           (c .loop-back .inv .0 ws bs b h);
       from = c .loop-back .inv .1;
+      seen = c .loop-back .inv .3;
     }

@@ -12,3 +12,4 @@ Inv-loop-back l =
     ((ws bs : List (List Bool)) → (l .entry .self .over ≡ false → l .entry .self .block ≡ length ws) → Holds (l .entry .self) (ws ++ bs) → Holds (l .self) (ws ++ (bs ++ take (l .back - 1) (mirrored bs))))
     × (l .self .from ≡ l .entry .self .from)
     × (l .entry .self .over ≡ true → l .self .over ≡ true)
+    × (l .self .seen ≡ l .entry .self .seen)
