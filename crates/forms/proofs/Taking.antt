@@ -59,6 +59,14 @@ module _ (n : ℕ) (fs fs′ : List Form) (letter : ℕ) (t : List ℕ) where
       stored (Err Ending) s = absurd (s .1)
       stored (Err (Repeat j i)) s = (s .0, (m, f, may, room, (es, right, fits, s .1)))
 
+-- the first method of a list that had none
+pub alone : (n n′ : ℕ) (fs fs′ ms : List Form) (letter : ℕ) (t : List ℕ) (k : ℕ) → n′ ≡ n → fs ≡ [] → ms ≡ fs′ → Adds-method n′ fs fs′ letter t (Ok k) → Adds-method n [] ms letter t (Ok 0)
+alone n n′ fs fs′ ms letter t k stage none same h =
+    let numbered = subst (λ i. Adds-method n′ fs fs′ letter t (Ok i)) (h .0) h in
+    let first = subst (λ x. Adds-method n′ x fs′ letter t (Ok (length x))) none numbered in
+    let here = subst (λ x. Adds-method n′ [] x letter t (Ok 0)) (sym same) first in
+    subst (λ m. Adds-method m [] ms letter t (Ok 0)) stage here
+
 -- a byte that writes no call's mark is the byte of none
 pub no-mark : (byte : ℕ) (m : Mark) → (byte ≡ 45 → ⊥) → (byte ≡ 115 → ⊥) → mark-byte m ≡ byte → (m ≡ Plain → ⊥) → ⊥
 no-mark byte Plain b s e p = p refl

@@ -11,8 +11,12 @@ use Rattle.forms.specs.declared.fault.FormFault.the-variants.{Letter, Full, No
 use Rattle.forms.specs.declared.form.Form.{Form}
 use Rattle.forms.specs.declared.form.Mark.{Mark}
 use Rattle.forms.specs.declared.form.Mark.the-variants.{Plain, Bob, Single}
+use Rattle.forms.specs.declared.list.Closed.{Closed}
+use Rattle.forms.specs.declared.list.Forms.{Forms}
 use Rattle.notation.specs.Drafts.{listed}
 use Rattle.notation.specs.Faults.{First, Right}
+use Rattle.rows.specs.declared.stage.Stage.{Stage}
+use Rattle.std.specs.Of.Vec.{vec-items}
 use Rattle.std.specs.declared.result.Result.{Result}
 use Rattle.std.specs.declared.result.Result.the-variants.{Ok, Err}
 use Rattle.std.specs.shelf.Lists.{Has}
@@ -50,6 +54,11 @@ abbrev pub Adds-method : ℕ → List Form → List Form → ℕ → List ℕ �
 Adds-method n fs fs′ letter t (Ok k) =
     (k ≡ length fs) × May-method fs letter × (length fs < 16) × ((cs : List (List Bool)) × Right n t cs × No-repeat cs × Added fs fs′ letter Plain cs)
 Adds-method n fs fs′ letter t (Err e) = (fs′ ≡ fs) × Method-fault n fs letter t e
+
+-- what the closed list of one method is, or why there is none
+abbrev pub Of-method : Stage → ℕ → List ℕ → Result (Forms Closed) FormFault → Type 0
+Of-method stage letter t (Ok forms) = (forms .stage ≡ stage) × Adds-method (stage .bells) [] (vec-items (forms .list)) letter t (Ok 0)
+Of-method stage letter t (Err e) = Method-fault (stage .bells) [] letter t e
 
 -- a call may have the letter of a method, here f, and a mark other than `.` not yet used with it
 abbrev pub May-call : List Form → ℕ → ℕ → Mark → Form → Type 0

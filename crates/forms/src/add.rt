@@ -129,3 +129,28 @@ impl<S: ListState> Forms<S> {
         self.store(letter, mark, changes)
     }
 }
+
+#[cfg(test)]
+mod tests {
+    use super::*;
+    use crate::fault::FormFaultDebug;
+    use crate::fault::FormFaultPartialEq;
+    use crate::list::OpenState;
+    use rows::fault::RowFaultDebug;
+    use rows::stage::Stage;
+    use std::test::*;
+
+    #[test]
+    fn plain_bob_minor(rt: LibcRuntime) -> Result<(), Fail> {
+        let mut forms = Forms::begin(rt.alloc(), Stage::new(6)?)?;
+        check_eq(forms.add_method(b'A', b"&-16-16-16,12"), Ok(0))?;
+        check_eq(forms.add_call(b'A', b'-', b"14"), Ok(1))?;
+        check_eq(
+            forms.add_method(b'A', b"&-16-16-16,12"),
+            Err(FormFault::Letter),
+        )?;
+        check(forms.list.len() == 2)?;
+        check_eq(&forms.list[0].turn().characters()[0..6], b"135264")?;
+        check_eq(&forms.list[1].turn().characters()[0..6], b"123564")
+    }
+}

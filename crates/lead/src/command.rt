@@ -1,8 +1,8 @@
 // The lines of a sheet and the commands that they hold.
-ghost use Prim.Native.Nat.{ℕ, suc, _+_, _-_, _^_, _<_, _≤_, min};
-ghost use Rattle.lead.specs.Sheets.{upto, value, digits, Cut-at, Line-of};
+ghost use Prim.Native.Nat.{_-_, _^_, _≤_, min};
+ghost use Rattle.lead.specs.Sheets.{upto, value, digits, Cut-at, Line-of, byte-of, Stage-of, Method-of, Call-of, Known, Parsed};
 ghost use Rattle.std.specs.Options.{Cases};
-ghost use lib.ListN.{length, getD, take, drop};
+ghost use lib.ListN.{length};
 ghost use mathlib.Core.Bool.{true, false};
 ghost use mathlib.Core.Path.{_≡_};
 
@@ -83,20 +83,26 @@ fn number(text: &[u8]) -> Option<usize>
 }
 
 // The byte of an argument; one that has not exactly one byte is no letter and no mark, as 0 is none.
-fn single(argument: &[u8]) -> u8 {
+fn single(argument: &[u8]) -> u8
+    ensures { λ r. ⌜ r ≡ byte-of (now (argument .entry)) ⌝ }
+{
     match argument {
         [byte] => *byte,
         _ => 0,
     }
 }
 
-fn method<'a>(arguments: &'a [u8]) -> Option<Command<'a>> {
+fn method<'a>(arguments: &'a [u8]) -> Option<Command<'a>>
+    ensures { λ r. ⌜ Method-of (now (arguments .entry)) r ⌝ }
+{
     let (letter, notation) = cut(arguments, b' ')?;
     let letter = single(letter);
     Some(Command::Method { letter, notation })
 }
 
-fn call<'a>(arguments: &'a [u8]) -> Option<Command<'a>> {
+fn call<'a>(arguments: &'a [u8]) -> Option<Command<'a>>
+    ensures { λ r. ⌜ Call-of (now (arguments .entry)) r ⌝ }
+{
     let (letter, rest) = cut(arguments, b' ')?;
     let (mark, notation) = cut(rest, b' ')?;
     let letter = single(letter);
@@ -108,26 +114,41 @@ fn call<'a>(arguments: &'a [u8]) -> Option<Command<'a>> {
     })
 }
 
-fn stage<'a>(arguments: &'a [u8]) -> Option<Command<'a>> {
+fn stage<'a>(arguments: &'a [u8]) -> Option<Command<'a>>
+    ensures { λ r. ⌜ Stage-of (now (arguments .entry)) r ⌝ }
+{
     let bells = number(arguments)?;
     Some(Command::Stage { bells })
 }
 
-pub fn parse<'a>(line: &'a [u8]) -> Command<'a> {
+// The command that a word and its arguments make, if they make one.
+fn known<'a>(word: &[u8], arguments: &'a [u8]) -> Option<Command<'a>>
+    ensures { λ r. ⌜ Known (now (word .entry)) (now (arguments .entry)) r ⌝ }
+{
+    if word == b"stage" {
+        return stage(arguments);
+    }
+    if word == b"method" {
+        return method(arguments);
+    }
+    if word == b"call" {
+        return call(arguments);
+    }
+    None
+}
+
+// What a line says.
+pub fn parse<'a>(line: &'a [u8]) -> Command<'a>
+    ensures { λ r. ⌜ Parsed (now (line .entry)) r ⌝ }
+{
     if line.is_empty() || line[0] == b'#' {
         return Command::Blank;
     }
     let Some((word, arguments)) = cut(line, b' ') else {
         return Command::Unknown { word: line };
     };
-    let command = match word {
-        b"stage" => stage(arguments),
-        b"method" => method(arguments),
-        b"call" => call(arguments),
-        _ => None,
-    };
-    match command {
-        Some(known) => known,
+    match known(word, arguments) {
+        Some(command) => command,
         None => Command::Unknown { word },
     }
 }
