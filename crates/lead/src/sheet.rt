@@ -1,4 +1,6 @@
 // Answering a sheet line by line.
+ghost use Rattle.std.specs.declared.option.Option.the-variants.{None};
+ghost use mathlib.Core.Path.{_≡_};
 use crate::command::Command;
 use crate::command::parse;
 use causes::CauseDisplay;
@@ -78,8 +80,8 @@ fn print_added(
     out: &mut BufWriter<Stdout>,
 ) -> io::Result<()> {
     match added {
-        Ok(number) => match forms.list.get(number) {
-            Some(form) => print_form(word, number, form, forms.stage.bells, out),
+        Ok(number) => match forms.form(number) {
+            Some(form) => print_form(word, number, form, forms.stage().bells, out),
             None => Ok(()),
         },
         Err(fault) => refuse(word, &fault, out),
@@ -87,7 +89,10 @@ fn print_added(
 }
 
 impl Sheet {
-    pub fn new(heap: Global) -> Sheet {
+    // No stage stands yet.
+    pub fn new(heap: Global) -> Sheet
+        ensures { λ r. ⌜ r .forms ≡ None ⌝ }
+    {
         Sheet { heap, forms: None }
     }
 

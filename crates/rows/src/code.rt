@@ -4,7 +4,7 @@ ghost use Rattle.rows.specs.Code.{fact, above, code, inserted, Has-code};
 ghost use Rattle.rows.specs.Rows.{On};
 ghost use Rattle.rows.specs.declared.fault.RowFault.the-variants.{Row as NoRow};
 ghost use Rattle.std.specs.Results.{Cases};
-ghost use lib.ListN.{length, getD, take};
+ghost use lib.ListN.{getD, take};
 ghost use mathlib.Core.Path.{_≡_};
 use crate::fault::RowFault;
 use crate::row::Row;

@@ -1,5 +1,5 @@
 // How rows are written: one bell character for each bell.
-ghost use Prim.Native.Nat.{ℕ, _<_, _≤_};
+ghost use Prim.Native.Nat.{ℕ};
 ghost use Rattle.rows.specs.Rows.{count, is-row, Row-of, On};
 ghost use Rattle.rows.specs.Text.{named, character, spelled};
 ghost use Rattle.rows.specs.declared.fault.RowFault.the-variants.{Row as NoRow};

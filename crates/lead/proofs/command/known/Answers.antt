@@ -1,6 +1,5 @@
 use lib.Chars.{codes}
-use mathlib.Core.List.{List}
-use mathlib.Core.Path.{refl, sym, _∙_}
+use mathlib.Core.Path.{sym, _∙_}
 use Rattle.lead.proofs.Saying.{known-stage, known-method, known-call, known-none}
 use Rattle.lead.proofs.command.known.Needs as need
 use Rattle.std.proofs.shelf.Equals.{matches-decides}
