@@ -9,6 +9,7 @@ ghost use Rattle.std.specs.Of.Vec.{vec-items};
 ghost use Rattle.std.specs.Options.{Cases};
 ghost use Rattle.std.specs.Orderings.{Decides};
 ghost use Rattle.std.specs.Places.{At};
+ghost use lib.Dec.{leb};
 ghost use lib.ListN.{length};
 ghost use mathlib.Core.Bool.{true};
 ghost use mathlib.Core.Path.{_≡_};
@@ -47,6 +48,12 @@ impl<S: ListState> Forms<S> {
             }
         }
         None
+    }
+
+    fn is_full(&self) -> bool
+        ensures { λ r. ⌜ r ≡ leb 16 (length (vec-items (now (self .entry) .list))) ⌝ }
+    {
+        self.list.len() >= 16
     }
 
     // Whether a method may have this letter.
@@ -100,7 +107,7 @@ impl<S: ListState> Forms<S> {
         if !self.takes_method(letter) {
             return Err(FormFault::Letter);
         }
-        if self.list.len() >= 16 {
+        if self.is_full() {
             return Err(FormFault::Full);
         }
         let changes = read(self.stage, text)?;
@@ -119,7 +126,7 @@ impl<S: ListState> Forms<S> {
         let Some(method) = self.called_method(letter, mark) else {
             return Err(FormFault::Letter);
         };
-        if self.list.len() >= 16 {
+        if self.is_full() {
             return Err(FormFault::Full);
         }
         let ending = read(self.stage, text)?;
