@@ -1,4 +1,6 @@
 // Books: leads and their rows, what a book means, the row book, and whole histories of calls.
+#![tactic(auto)]
+
 pub mod book;
 pub mod call;
 pub mod fault;

@@ -1,4 +1,6 @@
 // What a refusal says: the number of its cause, and the values that go with it.
+#![tactic(auto)]
+
 ghost use Rattle.causes.specs.Shown.{cause_shown};
 ghost use Rattle.causes.specs.declared.Cause.{Cause};
 ghost use Rattle.std.specs.Prelude.{◌≡◌, Some};

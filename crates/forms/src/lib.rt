@@ -1,4 +1,6 @@
 // Lead forms: methods with their bobs and singles, and the lists in which they stand.
+#![tactic(auto)]
+
 pub mod add;
 pub mod begin;
 mod ending;

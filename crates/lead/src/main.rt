@@ -1,4 +1,6 @@
 // Reads a sheet of methods with their bobs and singles, and prints the lead of each form.
+#![tactic(auto)]
+
 mod command;
 mod sheet;
 

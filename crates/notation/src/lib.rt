@@ -1,4 +1,6 @@
 // Changes, and the reader of place notation.
+#![tactic(auto)]
+
 pub mod apply;
 pub mod change;
 pub mod changes;

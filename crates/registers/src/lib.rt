@@ -1,4 +1,6 @@
 // Registers of keys: what a register means, and two that keep it.
+#![tactic(auto)]
+
 pub mod clash;
 pub mod entered;
 pub mod fault;

@@ -1,4 +1,6 @@
 // Rows on 4 to 12 bells: their product and inverse, their codes, and how they are written.
+#![tactic(auto)]
+
 pub mod card;
 pub mod code;
 pub mod fault;

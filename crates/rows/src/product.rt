@@ -1,8 +1,9 @@
 // Rounds, the product and the inverse of rows.
-ghost use Rattle.std.specs.Prelude.{◌≡◌, ℕ, ◌≤◌, List, Decides};
+ghost use Rattle.std.specs.Prelude.{◌≡◌, ℕ, ◌≤◌, List, Decides, nat_eq};
 ghost use Rattle.rows.specs.Rows.{rounds, bell_in, times, inverse, RowOf, On};
 ghost use Rattle.std.specs.Cmp.Rules.{comparing};
-ghost use Rattle.std.proofs.Common.{rules, arith};
+ghost use Rattle.std.proofs.Common.{rules};
+ghost use Rattle.std.specs.Slice.{slice_eq};
 
 use crate::row::Row;
 
@@ -48,11 +49,14 @@ impl Row {
 
 // Rows are equal where their bells are.
 impl PartialEq for Row {
-    ghost equals = { λ a b r. Decides r (a.bells ≡ b.bells) };
+    ghost eq = { λ a b. slice_eq nat_eq a.bells b.bells };
 
-    ghost laws = { first_of (Prim.search (comparing, rules), Prim.grind (arith, Self.row.coded.inj)) };
+    ghost laws = { Prim.search (comparing, rules) };
 
-    fn eq(&self, other: &Row) -> bool {
+    fn eq(&self, other: &Row) -> bool
+        ensures value { result ≡ slice_eq nat_eq self.now.bells other.now.bells }
+        ensures decides { Decides result (self.now.bells ≡ other.now.bells) }
+    {
         self.bells == other.bells
     }
 }

@@ -1,4 +1,6 @@
 // What every program over a sheet shares: reading the sheet, cutting it into lines and words, and printing refusals and rows.
+#![tactic(auto)]
+
 pub mod input;
 pub mod print;
 pub mod words;

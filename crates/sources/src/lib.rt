@@ -1,4 +1,6 @@
 // Calling sources: lists of form numbers, given one by one.
+#![tactic(auto)]
+
 pub mod fault;
 pub mod join;
 pub mod listed;

@@ -1,4 +1,6 @@
 // Runs a script of calls on both registers at once, and prints what each of them answers.
+#![tactic(auto)]
+
 mod answer;
 mod chance;
 mod command;

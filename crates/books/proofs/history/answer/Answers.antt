@@ -50,27 +50,27 @@ returns-in-Err-play g c =
     let e = c.in-Err-play.ensures in
     record { still = e.still; call = ap Play e.source.0 ∙ sym is; law = λ k. let t = e.law k in for_call forms limit leads (g.B.Book.kept c.play.new.book) (plain g.S.Source.list c.args.call.now) (Play (g.S.Source.list c.in-Play.source)) (Refused (NotPlayed c.in-Err-play.fault)) now is t.0 (plays_none forms limit leads (g.S.Source.list c.in-Play.source) c.in-Err-play.fault now e.moves t.1) }
 
-pub returns-in-Ok-take-back : goal.returns-in-Ok-take-back
-returns-in-Ok-take-back g c =
+pub returns-in-Ok-take_back : goal.returns-in-Ok-take_back
+returns-in-Ok-take_back g c =
     let book = c.args.book.now in
     let forms = g.B.Book.forms book in
     let limit = g.B.Book.limit book in
     let leads = g.B.Book.leads book in
-    let now = g.B.Book.leads c.take-back.new.self in
+    let now = g.B.Book.leads c.take_back.new.self in
     let is = ap (plain g.S.Source.list) c.in-TakeBack.is in
-    let e = c.in-Ok-take-back.ensures in
-    record { still = e.still; call = refl; law = λ k. let t = e.law k in for_call forms limit leads (g.B.Book.kept c.take-back.new.self) (plain g.S.Source.list c.args.call.now) (TakeBack) (Form c.in-Ok-take-back.form) now is (t) (takes_one forms limit leads c.in-Ok-take-back.form now e.takes) }
+    let e = c.in-Ok-take_back.ensures in
+    record { still = e.still; call = refl; law = λ k. let t = e.law k in for_call forms limit leads (g.B.Book.kept c.take_back.new.self) (plain g.S.Source.list c.args.call.now) (TakeBack) (Form c.in-Ok-take_back.form) now is (t) (takes_one forms limit leads c.in-Ok-take_back.form now e.takes) }
 
-pub returns-in-Err-take-back : goal.returns-in-Err-take-back
-returns-in-Err-take-back g c =
+pub returns-in-Err-take_back : goal.returns-in-Err-take_back
+returns-in-Err-take_back g c =
     let book = c.args.book.now in
     let forms = g.B.Book.forms book in
     let limit = g.B.Book.limit book in
     let leads = g.B.Book.leads book in
-    let now = g.B.Book.leads c.take-back.new.self in
+    let now = g.B.Book.leads c.take_back.new.self in
     let is = ap (plain g.S.Source.list) c.in-TakeBack.is in
-    let e = c.in-Err-take-back.ensures in
-    record { still = e.still; call = refl; law = λ k. let t = e.law k in for_call forms limit leads (g.B.Book.kept c.take-back.new.self) (plain g.S.Source.list c.args.call.now) (TakeBack) (Refused (NotTaken c.in-Err-take-back.fault)) now is (t) (takes_no_lead forms limit leads c.in-Err-take-back.fault now e.takes) }
+    let e = c.in-Err-take_back.ensures in
+    record { still = e.still; call = refl; law = λ k. let t = e.law k in for_call forms limit leads (g.B.Book.kept c.take_back.new.self) (plain g.S.Source.list c.args.call.now) (TakeBack) (Refused (NotTaken c.in-Err-take_back.fault)) now is (t) (takes_no_lead forms limit leads c.in-Err-take_back.fault now e.takes) }
 
 pub returns-in-Ok-verdict : goal.returns-in-Ok-verdict
 returns-in-Ok-verdict g c =

@@ -13,8 +13,8 @@ loop-number-init g c =
     let none = c.rewind.ensures.given in
     (refl, refl, refl, omega (arith, none), none_rung forms start list i none, λ k. (k, none_reached forms start list i (g.B.Book.limit book) none))
 
-pub overflow-sub-lead : goal.overflow-sub-lead
-overflow-sub-lead g c =
+pub overflow_sub-lead : goal.overflow_sub-lead
+overflow_sub-lead g c =
     let inv = c.loop-number.invariant in
     let book = c.loop-number.book in
     let after = g.B.Book.leads c.ring.new.self in
@@ -34,7 +34,7 @@ returns-in-Err g c =
     let stand = c.count-stand.result in
     let d = c.in-Some.ensures in
     let e = c.in-Err.ensures in
-    let b = c.take-back-to.ensures in
+    let b = c.take_back_to.ensures in
     let same_list = c.rewind.ensures.list in
     let at = given_at list i number (d.answer ∙ ap (λ xs. slice_get xs i) inv.2) in
     let after = g.B.Book.leads c.ring.new.self in
@@ -43,7 +43,7 @@ returns-in-Err g c =
     record {
       still = (b.still.0 ∙ (e.still.0 ∙ inv.0), b.still.1 ∙ (e.still.1 ∙ inv.1));
       source = (c.rewind-in-Err.ensures.list ∙ (d.list ∙ (inv.2 ∙ same_list)), c.rewind-in-Err.ensures.given);
-      moves = (omega (arith, lead, at.0, ap length same_list), back_to forms start list i after (g.B.Book.leads c.take-back-to.new.book) stand are c.count-stand.ensures b.leads);
+      moves = (omega (arith, lead, at.0, ap length same_list), back_to forms start list i after (g.B.Book.leads c.take_back_to.new.book) stand are c.count-stand.ensures b.leads);
       law = λ k.
           let so_far = inv.5 k in
           let t = e.law so_far.0 in (
@@ -70,13 +70,13 @@ loop-number-preserved g c =
     let j = g.S.Source.given c.next.new.self in
     let number = c.in-Some.number in
     let d = c.in-Some.ensures in
-    let e = c.in-default-ring.ensures in
+    let e = c.in_default-ring.ensures in
     let at = given_at list i number (d.answer ∙ ap (λ xs. slice_get xs i) inv.2) in (
       e.still.0 ∙ inv.0,
       e.still.1 ∙ inv.1,
       d.list ∙ inv.2,
       omega (arith, d.given, at.0),
-      rings_one forms start list i limit (g.B.Book.forms book) (g.B.Book.limit book) (g.B.Book.leads book) number inv.0 inv.1 inv.4 at.1 c.in-default-ring.field-0 (g.B.Book.leads c.ring.new.self) j at.0 d.given e.moves,
+      rings_one forms start list i limit (g.B.Book.forms book) (g.B.Book.limit book) (g.B.Book.leads book) number inv.0 inv.1 inv.4 at.1 c.in_default-ring.field-0 (g.B.Book.leads c.ring.new.self) j at.0 d.given e.moves,
       λ k.
           let so_far = inv.5 k in
           let t = e.law so_far.0 in
@@ -92,7 +92,7 @@ returns g c =
     let list = g.S.Source.list c.rewind.new.self in
     let given_list = g.S.Source.list c.args.source.now in
     let i = g.S.Source.given c.loop-number.source in
-    let d = c.in-default.ensures in
+    let d = c.in_default.ensures in
     let end = given_all list i (d.answer ∙ ap (λ xs. slice_get xs i) inv.2) in
     let same_list = c.rewind.ensures.list in
     let are = rings_all forms start list i (g.B.Book.leads c.loop-number.book) given_list end same_list inv.4 in

@@ -6,8 +6,8 @@ use Rattle.std.proofs.lemmas.List.{take_all}
 pub loop-left-preserved : goal.loop-left-preserved
 loop-left-preserved g c =
     let inv = c.loop-left.invariant in
-    let e = c.take-back.ensures in
-    let t = taken_back c.args.stand c.take-back.result (g.B.Book.leads c.loop-left.book) (g.B.Book.leads c.take-back.new.self) (omega (arith, inv.2, c.loop-left-test.true)) e.takes in
+    let e = c.take_back.ensures in
+    let t = taken_back c.args.stand c.take_back.result (g.B.Book.leads c.loop-left.book) (g.B.Book.leads c.take_back.new.self) (omega (arith, inv.2, c.loop-left-test.true)) e.takes in
     (e.still.0 ∙ inv.0, e.still.1 ∙ inv.1, omega (arith, inv.2, t.0), t.1 ∙ inv.3, λ k. e.law (inv.4 k))
 
 pub returns : goal.returns

@@ -8,8 +8,8 @@ use Rattle.books.specs.Theorems.{VerdictsTrue, RingsTurned, PlaysTurned}
 
 pub returns : goal.returns
 returns g c =
-    let b = c.in-ok-book.book in
-    let e = c.in-ok-book.ensures in
+    let b = c.in_ok-book.book in
+    let e = c.in_ok-book.ensures in
     let opens = e.opens in
     let stands = e.stands in
     let kept = kept_from g.R.Register.reach g.R.Register.capacity g.R.Register.entries b.register c.args.register b.forms.now _ b.stage c.args.forms.now.stage b.limit c.args.limit stands.3 stands.1 stands.2 stands.4 opens.1 opens.2.0 opens.2.1 in

@@ -26,8 +26,8 @@ pasted c =
     let ends : c.loop-k.k ≡ c.args.ending.now.count = omega arith in
     c.loop-k.invariant ∙ ap (paste c.args.lead.now.list (c.args.lead.now.count - c.args.ending.now.count) c.args.ending.now.list) ends
 
-pub invariant-of-result : goal.invariant-of-result
-invariant-of-result c =
+pub invariant_of-result : goal.invariant_of-result
+invariant_of-result c =
     let lead = c.args.lead.now in
     let ending = c.args.ending.now in
     (ap length (pasted c) ∙ (length-paste lead.list (lead.count - ending.count) ending.list ending.count (omega (arith, lead.room, lead.few)) (omega (arith, ending.room, ending.few)) ∙ lead.room), (lead.few, tt))

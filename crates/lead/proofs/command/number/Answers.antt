@@ -19,13 +19,13 @@ loop-byte-preserved c =
     let text = c.args.text.now in
     let i = c.loop-byte.byte-index in (
       digits_more text i (omega arith) c.if-byte-lt48.false c.if-byte-gt57.false c.loop-byte.invariant.0,
-      c.saturating-add-number.ensures ∙ ap (λ k. min (k + (get_or text i 0 - 48)) 18446744073709551615) c.saturating-mul.ensures ∙ value_more text i c.loop-byte.number (omega arith) c.loop-byte.invariant.1,
+      c.saturating_add-number.ensures ∙ ap (λ k. min (k + (get_or text i 0 - 48)) 18446744073709551615) c.saturating_mul.ensures ∙ value_more text i c.loop-byte.number (omega arith) c.loop-byte.invariant.1,
     )
 
 pub returns : goal.returns
 returns c =
     let text = c.args.text.now in
-    let some : 0 < length text = omega (arith, eqb-false (length text) 0 (sym c.if-is-empty.ensures)) in (
+    let some : 0 < length text = omega (arith, eqb-false (length text) 0 (sym c.if-is_empty.ensures)) in (
       digits_some text some ∙ digits_all text c.loop-byte.byte-index (omega arith) c.loop-byte.invariant.0,
       c.loop-byte.invariant.1 ∙ ap (λ t. min (value t) 18446744073709551615) (take_all c.loop-byte.byte-index text (omega arith)),
     )

@@ -3,11 +3,11 @@ use Rattle.lead.proofs.Saying.{not_blank, says_known, says_unknown, unknown_whol
 use Rattle.lead.proofs.command.parse.Goals as goal
 use Rattle.std.proofs.lemmas.Bool.{eqb-false}
 
-pub returns-in-default : goal.returns-in-default
-returns-in-default c =
+pub returns-in_default : goal.returns-in_default
+returns-in_default c =
     let t = c.args.line.now in
-    let some : 0 < length t = omega (arith, eqb-false (length t) 0 (sym c.if-is-empty.ensures)) in
-    unknown_whole t c.args.line refl c.in-default.ensures (not_blank t some c.if-line-eq35.false)
+    let some : 0 < length t = omega (arith, eqb-false (length t) 0 (sym c.if-is_empty.ensures)) in
+    unknown_whole t c.args.line refl c.in_default.ensures (not_blank t some c.if-line-eq35.false)
 
 pub returns-in-Some-known : goal.returns-in-Some-known
 returns-in-Some-known c =
@@ -17,6 +17,6 @@ returns-in-Some-known c =
 pub returns-in-None : goal.returns-in-None
 returns-in-None c =
     let t = c.args.line.now in
-    let some : 0 < length t = omega (arith, eqb-false (length t) 0 (sym c.if-is-empty.ensures)) in
+    let some : 0 < length t = omega (arith, eqb-false (length t) 0 (sym c.if-is_empty.ensures)) in
     let told = c.in-Some.ensures in
     says_unknown t c.in-Some.word c.in-Some.arguments told.0 told.1 told.2 (not_blank t some c.if-line-eq35.false) c.in-None.ensures

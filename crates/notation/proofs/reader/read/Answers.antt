@@ -23,19 +23,19 @@ loop-token-preserved c =
     let token = c.in-Some.token in
     let inv = c.loop-token.invariant in
     let here : TokenAt t j end token = subst (λ x. TokenAt x j end token) inv.1 c.in-Some.ensures.token in
-    let next = c.in-ok-take.ensures.steps inv.2.0 inv.2.1 in (
+    let next = c.in_ok-take.ensures.steps inv.2.0 inv.2.1 in (
       (token_inside t j end token here).1,
       c.in-Some.ensures.text ∙ inv.1,
       (
         next.0,
         next.2,
-        (λ i. resume n end (c.in-ok-take.ensures.seen i) (sym next.1 i) (drop end t)) ∙ sym (token_more n t j end c.loop-token.draft.seen inv.2.0 token here) ∙ inv.2.2,
+        (λ i. resume n end (c.in_ok-take.ensures.seen i) (sym next.1 i) (drop end t)) ∙ sym (token_more n t j end c.loop-token.draft.seen inv.2.0 token here) ∙ inv.2.2,
       ),
     )
 
-pub returns-in-err-take : goal.returns-in-err-take
+pub returns-in_err-take : goal.returns-in_err-take
 unfolding resume
-returns-in-err-take c =
+returns-in_err-take c =
     let n = c.args.stage.bells in
     let t = c.args.text.now in
     let j = c.loop-token.tokens.at in
@@ -43,13 +43,13 @@ returns-in-err-take c =
     let token = c.in-Some.token in
     let inv = c.loop-token.invariant in
     let here : TokenAt t j end token = subst (λ x. TokenAt x j end token) inv.1 c.in-Some.ensures.token in
-    let fault = c.in-err-take.field-0.0 in
-    let stops = c.in-err-take.ensures.steps inv.2.0 inv.2.1 in
+    let fault = c.in_err-take.field-0.0 in
+    let stops = c.in_err-take.ensures.steps inv.2.0 inv.2.1 in
     let is : outcome n t ≡ stopped fault =
     sym inv.2.2 ∙ token_more n t j end c.loop-token.draft.seen inv.2.0 token here ∙ ap (λ x. resume n end (seen_behind token c.loop-token.draft.seen) x (drop end t)) stops in
-    let p = err_from_is_err_and c.from-residual.result c.from-residual.ensures.1 in
+    let p = err_from_is_err_and c.from_residual.result c.from_residual.ensures.1 in
     let m = subst (Means n t) (sym (p.1 ∙ ap Err p.2)) (means n t (Err fault) is) in
-    record { means = m; only = only n t c.from-residual.result m }
+    record { means = m; only = only n t c.from_residual.result m }
 
 pub returns : goal.returns
 returns c =
@@ -59,7 +59,7 @@ returns c =
     let st = inv.2.0 in
     let seen = c.loop-token.draft.seen in
     let past = ap length inv.1 in
-    let ends : c.loop-token.tokens.at ≡ length t = omega (arith, inv.0, c.in-default.ensures.token.0) in
+    let ends : c.loop-token.tokens.at ≡ length t = omega (arith, inv.0, c.in_default.ensures.token.0) in
     let is : finished (length t) seen st ≡ outcome n t =
     sym (resume_end n (length t) seen st) ∙ (λ i. resume n (sym ends i) seen (goes st) (sym (drop_all c.loop-token.tokens.at t (omega arith)) i)) ∙ inv.2.2 in
     let m = means n t c.finish.result (subst (λ o. Answers n o c.finish.result) is (c.finish.ensures n st inv.2.1)) in

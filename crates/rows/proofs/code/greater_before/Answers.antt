@@ -5,8 +5,8 @@ use Rattle.rows.proofs.code.greater_before.Goals.{then-bells-i, else-bells-i}
 use Rattle.std.proofs.lemmas.List.{length-take}
 use Rattle.std.proofs.lemmas.Bool.Decides.{nat_tests}
 
-pub overflow-add-greater : goal.overflow-add-greater
-overflow-add-greater c =
+pub overflow_add-greater : goal.overflow_add-greater
+overflow_add-greater c =
     let a = c.args.bells.now in
     omega (arith, above_length (get_or a c.args.at 0) (take c.loop-i.i a), length-take c.loop-i.i a)
 

@@ -3,8 +3,8 @@ use Rattle.rows.proofs.Raised.{raised_to, raised_at, raised_up, raised_not, rais
 use Rattle.rows.proofs.code.insert.Goals as goal
 use Rattle.rows.proofs.code.insert.Goals.{then-bells-i, else-bells-i}
 
-pub overflow-add-bells : goal.overflow-add-bells
-overflow-add-bells c =
+pub overflow_add-bells : goal.overflow_add-bells
+overflow_add-bells c =
     let a = c.args.bells.now in
     let e = ap (λ (l : List ℕ). get_or l c.loop-i.i 0) c.loop-i.invariant in
     omega (arith, e, raised_at c.args.bell c.loop-i.i a (omega arith), c.requires.1 c.loop-i.i c.loop-i-test.true)

@@ -8,10 +8,10 @@ returns-then-bell-lt1 c = no_row 12 _ (λ m.
     let high = m.high c.loop-bell.bell-index (omega arith) in
     omega arith)
 
-pub returns-then-times-held-ne1 : goal.returns-then-times-held-ne1
-returns-then-times-held-ne1 c = no_row 12 _ (λ m.
+pub returns-then-times_held-ne1 : goal.returns-then-times_held-ne1
+returns-then-times_held-ne1 c = no_row 12 _ (λ m.
     let once = m.once c.loop-bell-2.bell (omega arith) (omega arith) in
-    omega (arith, c.times-held.ensures))
+    omega (arith, c.times_held.ensures))
 
 pub returns : goal.returns
 returns c = sym (row_from 12 _ (record {

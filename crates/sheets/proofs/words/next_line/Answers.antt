@@ -8,7 +8,7 @@ pub returns-in-None : goal.returns-in-None
 returns-in-None c =
     let bytes = c.args.bytes.now in
     let ends = c.in-None.ensures in (
-      omega (arith, eqb-false (length bytes) 0 (sym c.if-is-empty.ensures)),
+      omega (arith, eqb-false (length bytes) 0 (sym c.if-is_empty.ensures)),
       sym (take_all (upto 10 bytes) bytes (omega arith)),
       take_rest bytes (length bytes) ∙ drop_all (length bytes) bytes (omega arith) ∙ sym (drop_all (upto 10 bytes + 1) bytes (omega arith)),
     )

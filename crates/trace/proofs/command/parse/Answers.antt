@@ -10,8 +10,8 @@ returns-in-Some-alone c = says_alone c.args.line.now c.in-Some-alone.command c.i
 pub returns-in-None : goal.returns-in-None
 returns-in-None c =
     let t = c.args.line.now in
-    let some : 0 < length t = omega (arith, eqb-false (length t) 0 (sym c.if-is-empty.ensures)) in
-    unknown_alone t c.args.line refl c.in-default.ensures (not_blank t some c.if-line-eq35.false) c.in-None.ensures
+    let some : 0 < length t = omega (arith, eqb-false (length t) 0 (sym c.if-is_empty.ensures)) in
+    unknown_alone t c.args.line refl c.in_default.ensures (not_blank t some c.if-line-eq35.false) c.in-None.ensures
 
 pub returns-in-Some-known : goal.returns-in-Some-known
 returns-in-Some-known c =
@@ -21,6 +21,6 @@ returns-in-Some-known c =
 pub returns-in-None-known : goal.returns-in-None-known
 returns-in-None-known c =
     let t = c.args.line.now in
-    let some : 0 < length t = omega (arith, eqb-false (length t) 0 (sym c.if-is-empty.ensures)) in
+    let some : 0 < length t = omega (arith, eqb-false (length t) 0 (sym c.if-is_empty.ensures)) in
     let told = c.in-Some.ensures in
     says_unknown t c.in-Some.word c.in-Some.arguments told.0 told.1 told.2 (not_blank t some c.if-line-eq35.false) c.in-None-known.ensures

@@ -5,4 +5,4 @@ use Rattle.trace.proofs.script.run.Goals as goal
 pub loop-line-smaller : goal.loop-line-smaller
 loop-line-smaller c =
     let told = c.in-Some.ensures in
-    omega (arith, c.in-ok-rest.ensures, behind_shorter c.loop-line.rest.now c.in-Some.behind.now told.0 told.2)
+    omega (arith, c.in_ok-rest.ensures, behind_shorter c.loop-line.rest.now c.in-Some.behind.now told.0 told.2)

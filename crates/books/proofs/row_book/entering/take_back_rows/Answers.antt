@@ -12,9 +12,9 @@ loop-init g c =
 pub loop-preserved : goal.loop-preserved
 loop-preserved g c =
     let es = g.R.Register.entries c.args.register.now in (
-      c.take-back.ensures.list ∙ ap taken c.loop.invariant.0 ∙ taken_more es c.loop.counter,
-      c.take-back.ensures.fixed.0 ∙ c.loop.invariant.1,
-      c.take-back.ensures.fixed.1 ∙ c.loop.invariant.2,
+      c.take_back.ensures.list ∙ ap taken c.loop.invariant.0 ∙ taken_more es c.loop.counter,
+      c.take_back.ensures.fixed.0 ∙ c.loop.invariant.1,
+      c.take_back.ensures.fixed.1 ∙ c.loop.invariant.2,
     )
 
 pub returns : goal.returns

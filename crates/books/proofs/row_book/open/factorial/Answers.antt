@@ -7,8 +7,8 @@ pub loop-i-init : goal.loop-i-init
 unfolding fact
 loop-i-init c = refl
 
-pub overflow-mul-product : goal.overflow-mul-product
-overflow-mul-product c = omega (arith, weight_next c.loop-i.i c.loop-i.product (omega arith) c.loop-i.invariant, fact_fits c.loop-i.i (omega arith))
+pub overflow_mul-product : goal.overflow_mul-product
+overflow_mul-product c = omega (arith, weight_next c.loop-i.i c.loop-i.product (omega arith) c.loop-i.invariant, fact_fits c.loop-i.i (omega arith))
 
 pub loop-i-preserved : goal.loop-i-preserved
 loop-i-preserved c =

@@ -12,8 +12,8 @@ returns-in-Some c = record {
   room = c.in-Some.ensures.capacity;
 }
 
-pub returns-in-default : goal.returns-in-default
-returns-in-default c = record {
-  stands = λ l front e. absurd (not_none (vec_items c.args.self.now.leads) front l (omega (arith, c.in-default.ensures.cases)) e);
-  room = c.in-default.ensures.capacity;
+pub returns-in_default : goal.returns-in_default
+returns-in_default c = record {
+  stands = λ l front e. absurd (not_none (vec_items c.args.self.now.leads) front l (omega (arith, c.in_default.ensures.cases)) e);
+  room = c.in_default.ensures.capacity;
 }

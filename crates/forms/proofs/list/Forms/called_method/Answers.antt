@@ -7,4 +7,4 @@ returns-in-Some g c f method none =
     some_form _ _ _ _ there.0 there.1 none
 
 pub returns-in-None : goal.returns-in-None
-returns-in-None g c = called_from _ _ _ c.number-of-in-None.result c.in-None.ensures c.number-of-in-None.ensures
+returns-in-None g c = called_from _ _ _ c.number_of-in-None.result c.in-None.ensures c.number_of-in-None.ensures

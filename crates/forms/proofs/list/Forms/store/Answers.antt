@@ -5,17 +5,17 @@ use Rattle.notation.proofs.Drafting.{listed_long}
 
 pub returns-in-Some : goal.returns-in-Some
 returns-in-Some g c = record {
-  answer = (refl, found_repeat _ _ c.args.changes.count (listed_long c.args.changes) c.lead-rows-rows.ensures c.in-Some.j c.in-Some.i c.in-Some.ensures);
+  answer = (refl, found_repeat _ _ c.args.changes.count (listed_long c.args.changes) c.lead_rows-rows.ensures c.in-Some.j c.in-Some.i c.in-Some.ensures);
   stage = refl;
 }
 
-pub invariant-of-push-reserved : goal.invariant-of-push-reserved
-invariant-of-push-reserved g c = (c.requires.some, (c.lead-rows-rows.ensures, (no_repeat _ _ c.args.changes.count (listed_long c.args.changes) c.lead-rows-rows.ensures c.in-default.ensures, tt)))
+pub invariant_of-push_reserved : goal.invariant_of-push_reserved
+invariant_of-push_reserved g c = (c.requires.some, (c.lead_rows-rows.ensures, (no_repeat _ _ c.args.changes.count (listed_long c.args.changes) c.lead_rows-rows.ensures c.in_default.ensures, tt)))
 
-pub invariant-of-self : goal.invariant-of-self
-invariant-of-self g c =
+pub invariant_of-self : goal.invariant_of-self
+invariant_of-self g c =
     let list = c.args.self.now.list in
     let n = c.args.self.now.stage.bells in (
-      omega (arith, c.push-reserved.ensures.len, c.requires.room, list.ok.0),
-      (omega (arith, c.push-reserved.ensures.capacity, c.args.self.now.room), (forms_on_pushed n (vec_items list) _ _ c.push-reserved.ensures.items c.args.self.now.staged c.requires.staged, tt)),
+      omega (arith, c.push_reserved.ensures.len, c.requires.room, list.ok.0),
+      (omega (arith, c.push_reserved.ensures.capacity, c.args.self.now.room), (forms_on_pushed n (vec_items list) _ _ c.push_reserved.ensures.items c.args.self.now.staged c.requires.staged, tt)),
     )

@@ -26,8 +26,8 @@ loop-p-preserved c =
 changed : (c : After-loop-p) → c.loop-p.bells ≡ rung c.args.self.now.made c.args.row.now.bells
 changed c = ringing_all _ _ _ c.loop-p.p c.args.self.now.twelve (omega arith) c.loop-p.invariant.1
 
-pub invariant-of-result : goal.invariant-of-result
-invariant-of-result c = (subst (RowOf 12) (sym (changed c)) (rung_row 12 _ _ c.args.row.now.once), tt)
+pub invariant_of-result : goal.invariant_of-result
+invariant_of-result c = (subst (RowOf 12) (sym (changed c)) (rung_row 12 _ _ c.args.row.now.once), tt)
 
 pub returns : goal.returns
 returns c =

@@ -10,8 +10,8 @@ pub returns : goal.returns
 returns c st d =
     let n = c.args.stage.bells in
     let ws = map named c.args.digits.now in
-    let told = c.in-ok-change.ensures in
-    let change = c.in-ok-change.change in
+    let told = c.in_ok-change.ensures in
+    let change = c.in_ok-change.change in
     let rings : can_ring (made n ws) ≡ true = subst (λ m. can_ring m ≡ true) told.1 change.rings in (
       with_change n st ws,
       add_goes n st c.args.at ws told.0 rings,

@@ -17,7 +17,7 @@ loop-back-preserved c =
           let long = held_long first.changes (ws ++ bs) (subst (λ x. Holding x (listed first.changes) (ws ++ bs)) down h) in
           let at = b down in
           let sum = length-append ws bs in
-          let cut = c.saturating-sub-back-end.ensures in
+          let cut = c.saturating_sub-back-end.ensures in
           (omega arith, omega arith) in
           double_more ws bs _ c.loop-back.back first.changes.count (omega arith)
           self.over _ (listed self.changes) _ c.push.ensures.over facts
@@ -42,7 +42,7 @@ returns c =
           let long = held_long first.changes (ws ++ bs) (subst (λ x. Holding x (listed first.changes) (ws ++ bs)) down h) in
           let at = b down in
           let sum = length-append ws bs in
-          let cut = c.saturating-sub-back-end.ensures in
+          let cut = c.saturating_sub-back-end.ensures in
           omega arith)
           (c.loop-back.invariant.0 ws bs b h);
       from = c.loop-back.invariant.1;

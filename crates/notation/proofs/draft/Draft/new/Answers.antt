@@ -2,6 +2,6 @@ use Rattle.std.proofs.Common.{refl}
 use Rattle.notation.proofs.draft.Draft.new.Goals as goal
 use Rattle.notation.specs.Changes.{can_ring}
 
-pub invariant-of-changes : goal.invariant-of-changes
+pub invariant_of-changes : goal.invariant_of-changes
 unfolding can_ring
-invariant-of-changes c = (refl, (refl, tt))
+invariant_of-changes c = (refl, (refl, tt))

@@ -22,8 +22,8 @@ returns-after-loop-at c = record {
   within = λ _. c.loop-at.invariant.0;
 }
 
-pub returns-in-default : goal.returns-in-default
-returns-in-default c = record {
-  place = sym (stop_ends c.args.nodes.now c.args.count c.args.code c.args.count c.loop-at.at c.loop-at-test.true (sym c.below.ensures ∙ c.in-default.is)) ∙ c.loop-at.invariant.1;
+pub returns-in_default : goal.returns-in_default
+returns-in_default c = record {
+  place = sym (stop_ends c.args.nodes.now c.args.count c.args.code c.args.count c.loop-at.at c.loop-at-test.true (sym c.below.ensures ∙ c.in_default.is)) ∙ c.loop-at.invariant.1;
   within = λ _. c.loop-at.invariant.0;
 }

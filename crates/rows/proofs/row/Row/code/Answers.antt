@@ -8,8 +8,8 @@ pub loop-at-init : goal.loop-at-init
 unfolding fact code_to
 loop-at-init c = (refl, refl)
 
-pub overflow-mul-weight : goal.overflow-mul-weight
-overflow-mul-weight c = omega (arith, weight_next c.loop-at.at c.loop-at.weight (omega arith) c.loop-at.invariant.0, fact_fits c.loop-at.at (omega arith))
+pub overflow_mul-weight : goal.overflow_mul-weight
+overflow_mul-weight c = omega (arith, weight_next c.loop-at.at c.loop-at.weight (omega arith) c.loop-at.invariant.0, fact_fits c.loop-at.at (omega arith))
 
 pub loop-at-preserved : goal.loop-at-preserved
 loop-at-preserved c =
@@ -18,21 +18,21 @@ loop-at-preserved c =
     let e : k + 1 - 1 ≡ k = omega arith in
     let w : c.loop-at.weight * k ≡ fact k = weight_next k c.loop-at.weight (omega arith) c.loop-at.invariant.0 in
     let d : c.loop-at.code ≡ code_to a k = c.loop-at.invariant.1 in
-    let g = c.greater-before.ensures in
+    let g = c.greater_before.ensures in
     let n = code_next a k in
     (w ∙ ap fact (sym e), cc)
 
 -- the code so far with the next place added is below 12!
-bounded : (c : goal.After-greater-before) → c.loop-at.code + c.greater-before.result * (c.loop-at.weight * c.loop-at.at) < 479001600
+bounded : (c : goal.After-greater_before) → c.loop-at.code + c.greater_before.result * (c.loop-at.weight * c.loop-at.at) < 479001600
 bounded c =
     let k = c.loop-at.at in
     omega (arith, (loop-at-preserved c).1, code_below c.args.self.now.bells (k + 1), fact_fits (k + 1) (omega arith))
 
-pub overflow-mul-code : goal.overflow-mul-code
-overflow-mul-code c = omega (arith, bounded c)
+pub overflow_mul-code : goal.overflow_mul-code
+overflow_mul-code c = omega (arith, bounded c)
 
-pub overflow-add-code : goal.overflow-add-code
-overflow-add-code c = omega (arith, bounded c)
+pub overflow_add-code : goal.overflow_add-code
+overflow_add-code c = omega (arith, bounded c)
 
 pub returns : goal.returns
 returns c =

@@ -6,8 +6,8 @@ use Rattle.rows.proofs.row.Row.inverse.Goals.{After-loop-p}
 use Rattle.rows.specs.Rows.{rounds, bell_in, times, inverse, RowOf, On}
 use Rattle.std.proofs.lemmas.List.{length-set}
 
-pub overflow-sub-bells : goal.overflow-sub-bells
-overflow-sub-bells c = (member 12 _ c.args.self.now.once).low c.loop-p.p (omega arith)
+pub overflow_sub-bells : goal.overflow_sub-bells
+overflow_sub-bells c = (member 12 _ c.args.self.now.once).low c.loop-p.p (omega arith)
 
 pub bounds-bells-bell : goal.bounds-bells-bell
 bounds-bells-bell c =
@@ -25,8 +25,8 @@ loop-p-preserved c = (
 inverted : (c : After-loop-p) → c.loop-p.bells ≡ inverse 12 c.args.self.now.bells
 inverted c = inverse_from 12 _ c.args.self.now.once c.loop-p.bells c.loop-p.invariant.0 (λ k l. c.loop-p.invariant.1 k (omega arith))
 
-pub invariant-of-result : goal.invariant-of-result
-invariant-of-result c = (subst (RowOf 12) (sym (inverted c)) (inverse_row 12 _ c.args.self.now.once), tt)
+pub invariant_of-result : goal.invariant_of-result
+invariant_of-result c = (subst (RowOf 12) (sym (inverted c)) (inverse_row 12 _ c.args.self.now.once), tt)
 
 pub returns : goal.returns
 returns c =

@@ -12,4 +12,4 @@ returns c =
     let r = c.args.self.now.once in
     let (small, card) = c.in-Ok.ensures in
     let on : On 6 a = on_by_code 6 a (omega arith) r (omega (arith, small, c.code.ensures.value)) in
-    sym (c.in-Ok-of-code.ensures.only (inverse 12 a) (inverse_row 12 a r) (inverse_on 6 a r on) (sym (card a (c.code.ensures.back 6 on))))
+    sym (c.in-Ok-of_code.ensures.only (inverse 12 a) (inverse_row 12 a r) (inverse_on 6 a r on) (sym (card a (c.code.ensures.back 6 on))))

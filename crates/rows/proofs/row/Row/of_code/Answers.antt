@@ -42,8 +42,8 @@ loop-at-preserved c =
 whole : (n k code : ℕ) (a : List ℕ) → k ≡ n → take k a ≡ decoded k code → On k a → (take n a ≡ decoded n code) × On n a
 whole n k code a e t on = subst (λ (j : ℕ). (take j a ≡ decoded j code) × On j a) e (t, on)
 
-pub invariant-of-result : goal.invariant-of-result
-invariant-of-result c =
+pub invariant_of-result : goal.invariant_of-result
+invariant_of-result c =
     let n = c.args.stage.bells in
     let a = c.loop-at.bells in
     let (t, on) = whole n c.loop-at.at c.args.code a (omega arith) c.loop-at.invariant.1 c.loop-at.invariant.3 in

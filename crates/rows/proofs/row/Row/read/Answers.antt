@@ -24,15 +24,15 @@ returns-then-text-stage c = (
       omega arith,
 )
 
-pub returns-then-not-once-each : goal.returns-then-not-once-each
-returns-then-not-once-each c = (
+pub returns-then-not-once_each : goal.returns-then-not-once_each
+returns-then-not-once_each c = (
   refl,
   λ a r o e.
-      let is = bells (goal.at.returns-then-not-once-each c).After-loop-p in
-      both_ways _ (sym c.if-not-once-each.ensures) (subst (RowOf 12) (spelled_only _ _ _ is a r o e) r),
+      let is = bells (goal.at.returns-then-not-once_each c).After-loop-p in
+      both_ways _ (sym c.if-not-once_each.ensures) (subst (RowOf 12) (spelled_only _ _ _ is a r o e) r),
 )
 
 pub returns : goal.returns
 returns c =
     let is = bells (goal.at.returns c).After-loop-p in
-    (named_on _ _ _ is, named_spells _ _ _ is (sym c.if-not-once-each.ensures))
+    (named_on _ _ _ is, named_spells _ _ _ is (sym c.if-not-once_each.ensures))

@@ -4,9 +4,9 @@ use Rattle.rows.proofs.Members.{member}
 use Rattle.rows.proofs.row.Row.rounds.Goals as goal
 use Rattle.rows.specs.Rows.{is_row}
 
-pub invariant-of-result : goal.invariant-of-result
+pub invariant_of-result : goal.invariant_of-result
 unfolding is_row
-invariant-of-result c = (refl, tt)
+invariant_of-result c = (refl, tt)
 
 pub returns : goal.returns
 returns c = record {

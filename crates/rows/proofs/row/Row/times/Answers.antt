@@ -5,8 +5,8 @@ use Rattle.rows.proofs.row.Row.times.Goals as goal
 use Rattle.rows.proofs.row.Row.times.Goals.{After-loop-p}
 use Rattle.rows.specs.Rows.{times, RowOf, On}
 
-pub overflow-sub-bells : goal.overflow-sub-bells
-overflow-sub-bells c = (member 12 _ c.args.other.now.once).low c.loop-p.p (omega arith)
+pub overflow_sub-bells : goal.overflow_sub-bells
+overflow_sub-bells c = (member 12 _ c.args.other.now.once).low c.loop-p.p (omega arith)
 
 pub bounds-self-bell : goal.bounds-self-bell
 bounds-self-bell c =
@@ -19,8 +19,8 @@ product : (c : After-loop-p) → c.loop-p.bells ≡ times c.args.self.now.bells 
 product c =
     times_from 12 _ _ _ (member 12 _ c.args.other.now.once).long c.loop-p.invariant.0 (λ k l. c.loop-p.invariant.1 k (omega arith))
 
-pub invariant-of-result : goal.invariant-of-result
-invariant-of-result c = (subst (RowOf 12) (sym (product c)) (times_row 12 _ _ c.args.self.now.once c.args.other.now.once), tt)
+pub invariant_of-result : goal.invariant_of-result
+invariant_of-result c = (subst (RowOf 12) (sym (product c)) (times_row 12 _ _ c.args.self.now.once c.args.other.now.once), tt)
 
 pub returns : goal.returns
 returns c =

@@ -21,7 +21,7 @@ returns-in-Some g c =
 pub returns : goal.returns
 returns g c =
     let s = c.args.self.now in
-    let e = c.in-default.ensures in
+    let e = c.in_default.ensures in
     let r = c.next-3.result in
     let back = c.rewind.ensures.list in
     let t = join_turned (g.A.Source.list s.first) (g.B.Source.list s.second) (g.A.Source.given s.first) (g.B.Source.given s.second) s.turned c.if-self.false r (g.A.Source.list c.next-2.new.self) (g.B.Source.list c.next-3.new.self) (g.A.Source.given c.next-2.new.self) (g.B.Source.given c.next-3.new.self) (record { answer = e.answer; given = e.given; list = e.list })

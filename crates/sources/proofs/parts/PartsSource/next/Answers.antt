@@ -20,14 +20,14 @@ returns-in-Some g c =
 pub returns-then-self-2 : goal.returns-then-self-2
 returns-then-self-2 g c =
     let s = c.args.self.now in
-    let e = c.in-default.ensures in
+    let e = c.in_default.ensures in
     let t = parts_end s.times s.round (g.S.Source.list s.below) (g.S.Source.given s.below) (g.S.Source.list c.next.new.self) (g.S.Source.given c.next.new.self) c.if-self.false c.if-self-2.true (record { answer = e.answer; given = e.given; list = e.list }) in
     record { answer = t.answer; given = t.given; list = t.list }
 
 pub returns : goal.returns
 returns g c =
     let s = c.args.self.now in
-    let e = c.in-default.ensures in
+    let e = c.in_default.ensures in
     let back = c.rewind.ensures.list ∙ e.list in
     let r = c.next-2.result in
     let t = parts_again s.times s.round (g.S.Source.list s.below) (g.S.Source.given s.below) r (g.S.Source.list c.next.new.self) (g.S.Source.list c.next-2.new.self) (g.S.Source.given c.next.new.self) (g.S.Source.given c.next-2.new.self) c.if-self-2.false (record { answer = e.answer; given = e.given; list = e.list })

@@ -18,8 +18,8 @@ remove-requires g c =
     let w = without self.forms.now self.touch.leads.items last.0 last.0 c.in-Some.lead c.index-self-lead.result last.1 refl self.known self.linked in
     omega (arith, self.long, w.shorter)
 
-pub invariant-of-self : goal.invariant-of-self
-invariant-of-self g c =
+pub invariant_of-self : goal.invariant_of-self
+invariant_of-self g c =
     let last = c.in-Some.ensures in
     let self = c.args.self.now in
     let left = c.remove.new.self in
@@ -49,11 +49,11 @@ returns g c =
     let gone = c.remove.ensures.stands c.in-Some.lead last.0 last.1 in
     let w = without self.forms.now self.touch.leads.items left.leads.items last.0 c.in-Some.lead c.index-self-lead.result last.1 gone.0 self.known self.linked in
     let was = self.register in
-    let is = c.take-back-rows.new.register in
+    let is = c.take_back_rows.new.register in
     record {
       still = (refl, refl);
       takes = (lead c.in-Some.lead, w.leads, refl);
       law = λ kept.
           kept_as self.stage.bells self.limit self.forms.now left.leads.items (g.R.Register.reach was) (g.R.Register.reach is) (g.R.Register.capacity was) (g.R.Register.capacity is) (g.R.Register.entries is)
-          c.take-back-rows.ensures.fixed (w.held (g.R.Register.entries was) (g.R.Register.entries is) c.take-back-rows.ensures.list kept.0) kept.1 kept.2;
+          c.take_back_rows.ensures.fixed (w.held (g.R.Register.entries was) (g.R.Register.entries is) c.take_back_rows.ensures.list kept.0) kept.1 kept.2;
     }

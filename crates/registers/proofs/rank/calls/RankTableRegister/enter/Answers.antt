@@ -5,12 +5,12 @@ use Rattle.registers.specs.Lent.{used}
 
 pub returns : goal.returns
 returns g c =
-    let same = ap used c.enter-code.ensures.beyond.0 in
+    let same = ap used c.enter_code.ensures.beyond.0 in
     record {
-      answer = cc (c.enter-code.ensures.answer, c.code.ensures);
-      list = cc (c.enter-code.ensures.list, c.code.ensures);
+      answer = cc (c.enter_code.ensures.answer, c.code.ensures);
+      list = cc (c.enter_code.ensures.list, c.code.ensures);
       fixed = (same, same);
-      apart = trail_once _ _ _ _ c.enter-code.new.self.linked;
-      lent = c.enter-code.ensures.lent;
-      beyond = c.enter-code.ensures.beyond;
+      apart = trail_once _ _ _ _ c.enter_code.new.self.linked;
+      lent = c.enter_code.ensures.lent;
+      beyond = c.enter_code.ensures.beyond;
     }

@@ -5,12 +5,12 @@ use Rattle.registers.specs.Lent.{used}
 
 pub returns : goal.returns
 returns g c =
-    let same = ap used c.take-last.ensures.beyond.0 in
+    let same = ap used c.take_last.ensures.beyond.0 in
     record {
-      answer = c.take-last.ensures.answer;
-      list = c.take-last.ensures.list;
+      answer = c.take_last.ensures.answer;
+      list = c.take_last.ensures.list;
       fixed = (same, same);
-      apart = trail_once _ _ _ _ c.take-last.new.self.linked;
-      lent = c.take-last.ensures.lent;
-      beyond = c.take-last.ensures.beyond;
+      apart = trail_once _ _ _ _ c.take_last.new.self.linked;
+      lent = c.take_last.ensures.lent;
+      beyond = c.take_last.ensures.beyond;
     }

@@ -1,8 +1,8 @@
 use Rattle.registers.proofs.Settling.{added, settled_beyond}
 use Rattle.registers.proofs.rank.rank_table.RankTable.add.Goals as goal
 
-pub invariant-of-self : goal.invariant-of-self
-invariant-of-self g c =
+pub invariant_of-self : goal.invariant_of-self
+invariant_of-self g c =
     let table = c.args.self.now in
     let adds = added _ _ table.linked table.kept c.args.code c.args.mark c.requires.0 c.requires.2 _ _ _ c.settle.ensures.cells c.end-link.ensures c.number-count.ensures in
     (adds.0.0, (adds.0.1, tt))

@@ -8,8 +8,8 @@ bounds-self-last g c =
     let table = c.args.self.now in
     omega (arith, last_below _ _ c.in-Some.last c.in-Some.is table.linked, used_le (length table.cells.now))
 
-pub invariant-of-self : goal.invariant-of-self
-invariant-of-self g c =
+pub invariant_of-self : goal.invariant_of-self
+invariant_of-self g c =
     let table = c.args.self.now in
     let holds = rewritten_holds _ _ c.in-Some.last c.in-Some.is table.linked c.in-Some.last.cell table.kept in
     (holds.0, (holds.1, tt))

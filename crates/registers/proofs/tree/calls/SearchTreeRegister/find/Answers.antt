@@ -8,6 +8,6 @@ pub returns : goal.returns
 returns g c =
     let t = c.args.self.now in
     record {
-      answer = subst (λ k. c.mark-of.result ≡ marked k (tree_entries t.nodes.now t.count)) c.code.ensures c.mark-of.ensures;
+      answer = subst (λ k. c.mark_of.result ≡ marked k (tree_entries t.nodes.now t.count)) c.code.ensures c.mark_of.ensures;
       apart = tree_apart t.nodes.now t.count t.room t.found;
     }

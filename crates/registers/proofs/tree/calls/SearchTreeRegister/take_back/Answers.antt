@@ -5,8 +5,8 @@ use Rattle.registers.proofs.tree.calls.SearchTreeRegister.take_back.Goals as goa
 
 pub returns : goal.returns
 returns g c =
-    let s = c.take-last.new.self in
-    let e = c.take-last.ensures in
+    let s = c.take_last.new.self in
+    let e = c.take_last.ensures in
     record {
       answer = e.answer;
       list = e.list;

@@ -8,16 +8,16 @@ use Rattle.registers.proofs.tree.search_tree.SearchTree.hang.Goals as goal
 use Rattle.registers.proofs.tree.search_tree.SearchTree.hang.Goals.{then-count-gt0, else-count-gt0}
 use Rattle.std.proofs.lemmas.Bool.{cases_eq}
 
-pub overflow-cast-self : goal.overflow-cast-self
-overflow-cast-self g c =
+pub overflow_cast-self : goal.overflow_cast-self
+overflow_cast-self g c =
     let n = c.args.self.now.count in
     elim (cases_eq n 0) [
       | inl z ↦ (let e : c.args.above ≡ 0 = c.requires.1 ∙ stop_none c.args.self.now.nodes.now n c.args.code z in omega arith)
       | inr nz ↦ omega (arith, c.requires.2 (omega arith), c.args.self.now.few)
     ]
 
-pub invariant-of-self : goal.invariant-of-self
-invariant-of-self g c =
+pub invariant_of-self : goal.invariant_of-self
+invariant_of-self g c =
     let t = c.args.self.now in
     let ns = t.nodes.now in
     let n = t.count in
@@ -25,8 +25,8 @@ invariant-of-self g c =
     let room : n < length ns = omega (arith, c.requires.0, used_le (length ns)) in
     (rw length-set (omega arith), (t.few, (leaf_upward ns n c.args.code c.args.mark c.args.above room few t.upward t.found, (leaf_found ns n c.args.code c.args.mark c.args.above room few t.upward t.found, tt))))
 
-pub invariant-of-self-2 : goal.invariant-of-self-2
-invariant-of-self-2 g c =
+pub invariant_of-self-2 : goal.invariant_of-self-2
+invariant_of-self-2 g c =
     let t = c.args.self.now in
     let ns = t.nodes.now in
     let n = t.count in

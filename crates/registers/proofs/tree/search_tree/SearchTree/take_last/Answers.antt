@@ -6,8 +6,8 @@ use Rattle.registers.proofs.Reaching.{found_fewer}
 use Rattle.registers.proofs.Holding.{last_entry}
 use Rattle.registers.proofs.tree.search_tree.SearchTree.take_last.Goals as goal
 
-pub invariant-of-self : goal.invariant-of-self
-invariant-of-self g c =
+pub invariant_of-self : goal.invariant_of-self
+invariant_of-self g c =
     let t = c.args.self.now in
     let le = c.if-self-eq0.false in
     (omega (arith, t.room), (omega (arith, t.few), ((λ l w. t.upward l (omega arith)), (found_fewer t.nodes.now (t.count - 1) t.count (omega arith) t.upward t.found, tt))))
