@@ -1,10 +1,9 @@
 -- Rows are a group under the product, and so are the rows on a stage.
-use Rattle.std.proofs.Common.{◌≡◌, ℕ, zero, suc, ◌+◌, ◌-◌, ◌<◌, ◌≤◌, Bool, true, false, eqb, List, [], ◌∷◌, map, length, get_or, set, sym, refl, ap, ◌∙◌, arith, below_more}
+use Rattle.std.proofs.Common.{◌≡◌, ℕ, suc, ◌+◌, ◌-◌, ◌<◌, ◌≤◌, eqb, List, length, get_or, set, sym, refl, ap, ◌∙◌, arith, below_more}
 use Rattle.rows.proofs.Members.{Member, member, row_from, place_of_holds, place_of_only, count_map, count_counting}
-use Rattle.rows.specs.Rows.{rounds, bell_in, times, place_of, inverse, count, RowOf, On}
+use Rattle.rows.specs.Rows.{rounds, bell_in, times, place_of, inverse, RowOf, On}
 use Rattle.std.proofs.lemmas.List.FromFn.{length-range_with_len, get_or-range_with_len, length-map-range_with_len, get_or-map-range_with_len}
 use Rattle.std.proofs.lemmas.List.{ext_get_or, get_or-map, get_or-set_other, get_or-set_same, length-map}
-use Rattle.std.proofs.lemmas.Bool.{eqb-true, eq-eqb, ne_eqb}
 use Rattle.std.proofs.lemmas.Bool.Decides.{same_from_decides, Decides-eqb, Decides-like}
 use Rattle.std.specs.List.{range_with_len}
 

@@ -1,6 +1,6 @@
 -- A row and its text lead back to each other.
-use Rattle.std.proofs.Common.{◌≡◌, ℕ, suc, ◌+◌, ◌-◌, ◌<◌, ◌≤◌, List, map, length, get_or, take, sym, ap, ◌∙◌, subst, ⊎_elim, arith}
-use Rattle.rows.proofs.Members.{Member, member}
+use Rattle.std.proofs.Common.{◌≡◌, ℕ, suc, ◌+◌, ◌-◌, ◌<◌, ◌≤◌, List, length, get_or, take, sym, ap, ◌∙◌, subst, ⊎_elim, arith}
+use Rattle.rows.proofs.Members.{member}
 use Rattle.rows.specs.Rows.{RowOf, On}
 use Rattle.rows.specs.Text.{named, character, spelled}
 use Rattle.std.proofs.lemmas.List.{ext_get_or, get_or-map, get_or-take, length-map, length-take-le}

@@ -1,5 +1,5 @@
 -- The code of a row: each number below n! is the code of exactly one row on n bells.
-use Rattle.std.specs.Prelude.{◌≡◌, ℕ, zero, suc, ◌+◌, ◌-◌, ◌*◌, ◌<◌, cond, List, [], ◌∷◌, ◌++◌, map, take, drop, nat_le, nat_lt}
+use Rattle.std.specs.Prelude.{◌≡◌, ℕ, zero, suc, ◌+◌, ◌-◌, ◌*◌, cond, List, [], ◌∷◌, ◌++◌, map, take, drop, nat_le, nat_lt}
 use Rattle.rows.specs.Rows.{bell_in, RowOf, On}
 
 unfoldable pub fact : ℕ → ℕ

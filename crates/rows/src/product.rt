@@ -1,9 +1,9 @@
 // Rounds, the product and the inverse of rows.
-ghost use Rattle.std.specs.Prelude.{◌≡◌, ℕ, ◌≤◌, List, Decides, nat_eq};
+ghost use Rattle.std.specs.Prelude.{◌≡◌, ℕ, ◌≤◌, List, Decides};
 ghost use Rattle.rows.specs.Rows.{rounds, bell_in, times, inverse, RowOf, On};
 ghost use Rattle.std.specs.Cmp.Rules.{comparing};
 ghost use Rattle.std.proofs.Common.{rules};
-ghost use Rattle.std.specs.Slice.{slice_eq};
+ghost use Rattle.std.specs.Str.{bytes_eq};
 
 use crate::row::Row;
 
@@ -49,12 +49,12 @@ impl Row {
 
 // Rows are equal where their bells are.
 impl PartialEq for Row {
-    ghost eq = { λ a b. slice_eq nat_eq a.bells b.bells };
+    ghost eq = { λ a b. bytes_eq a.bells b.bells };
 
     ghost laws = { Prim.search (comparing, rules) };
 
     fn eq(&self, other: &Row) -> bool
-        ensures value { result ≡ slice_eq nat_eq self.now.bells other.now.bells }
+        ensures value { result ≡ bytes_eq self.now.bells other.now.bells }
         ensures decides { Decides result (self.now.bells ≡ other.now.bells) }
     {
         self.bells == other.bells

@@ -7,7 +7,7 @@ pub overflow_add-bells : goal.overflow_add-bells
 overflow_add-bells c =
     let a = c.args.bells.now in
     let e = ap (λ (l : List ℕ). get_or l c.loop-i.i 0) c.loop-i.invariant in
-    omega (arith, e, raised_at c.args.bell c.loop-i.i a (omega arith), c.requires.1 c.loop-i.i c.loop-i-test.true)
+    omega (arith, e, raised_at c.args.bell c.loop-i.i a (omega arith), c.requires.by_index c.loop-i.i c.loop-i-test.true)
 
 pub loop-i-preserved : goal.loop-i-preserved
 loop-i-preserved c =

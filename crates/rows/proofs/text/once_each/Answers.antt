@@ -1,4 +1,4 @@
-use Rattle.std.proofs.Common.{sym, ◌∙◌, arith}
+use Rattle.std.proofs.Common.{sym, arith}
 use Rattle.rows.proofs.Members.{no_row, row_from}
 use Rattle.rows.proofs.text.once_each.Goals as goal
 

@@ -1,4 +1,4 @@
-use Rattle.std.proofs.Common.{◌≡◌, sym, ◌∙◌, subst, arith}
+use Rattle.std.proofs.Common.{◌≡◌, sym, subst, arith}
 use Rattle.rows.proofs.Group.{inverse_row, inverse_on, inverse_more, inverse_from, inverse_times, times_inverse, inverse_places}
 use Rattle.rows.proofs.Members.{member}
 use Rattle.rows.proofs.row.Row.inverse.Goals as goal
@@ -26,7 +26,7 @@ inverted : (c : After-loop-p) → c.loop-p.bells ≡ inverse 12 c.args.self.now.
 inverted c = inverse_from 12 _ c.args.self.now.once c.loop-p.bells c.loop-p.invariant.0 (λ k l. c.loop-p.invariant.1 k (omega arith))
 
 pub invariant_of-result : goal.invariant_of-result
-invariant_of-result c = (subst (RowOf 12) (sym (inverted c)) (inverse_row 12 _ c.args.self.now.once), tt)
+invariant_of-result c = record { once = subst (RowOf 12) (sym (inverted c)) (inverse_row 12 _ c.args.self.now.once) }
 
 pub returns : goal.returns
 returns c =

@@ -1,5 +1,5 @@
 use Rattle.std.proofs.Common.{sym, arith}
-use Rattle.rows.specs.Code.{fact, code}
+use Rattle.rows.specs.Code.{fact}
 use Rattle.rows.specs.Rows.{inverse, On}
 use Rattle.rows.proofs.Decoding.{on_by_code}
 use Rattle.rows.proofs.Group.{inverse_row, inverse_on}

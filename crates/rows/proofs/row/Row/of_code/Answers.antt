@@ -17,7 +17,7 @@ loop-at-init c =
     (refl, sym (decoded_first c.args.code), r, rounds_on 1, refused 1 c.args.code c.args.code r)
 
 pub insert-requires : goal.insert-requires
-insert-requires c = (omega arith, λ i l. omega (arith, decoded_most c.loop-at.at c.args.code c.loop-at.bells c.loop-at.invariant.1 i l))
+insert-requires c = (record { at_bound = omega arith; by_index = λ i l. omega (arith, decoded_most c.loop-at.at c.args.code c.loop-at.bells c.loop-at.invariant.1 i l) })
 
 pub loop-at-preserved : goal.loop-at-preserved
 unfolding left
@@ -47,7 +47,7 @@ invariant_of-result c =
     let n = c.args.stage.bells in
     let a = c.loop-at.bells in
     let (t, on) = whole n c.loop-at.at c.args.code a (omega arith) c.loop-at.invariant.1 c.loop-at.invariant.3 in
-    (decoded_row n c.args.code a c.args.stage.most c.loop-at.invariant.0 on t, tt)
+    record { once = decoded_row n c.args.code a c.args.stage.most c.loop-at.invariant.0 on t }
 
 pub returns : goal.returns
 returns c =

@@ -1,4 +1,4 @@
-use Rattle.std.proofs.Common.{sym, refl, ◌∙◌, subst, arith}
+use Rattle.std.proofs.Common.{sym, refl, subst, arith}
 use Rattle.rows.proofs.Members.{member}
 use Rattle.rows.proofs.Spelled.{Named, named_on, named_spells, spelled_only, spells_n}
 use Rattle.rows.proofs.row.Row.read.Goals as goal

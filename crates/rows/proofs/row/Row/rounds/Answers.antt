@@ -6,7 +6,7 @@ use Rattle.rows.specs.Rows.{is_row}
 
 pub invariant_of-result : goal.invariant_of-result
 unfolding is_row
-invariant_of-result c = (refl, tt)
+invariant_of-result c = record { once = refl }
 
 pub returns : goal.returns
 returns c = record {

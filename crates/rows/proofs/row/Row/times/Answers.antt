@@ -1,4 +1,4 @@
-use Rattle.std.proofs.Common.{◌≡◌, ℕ, List, sym, subst, arith}
+use Rattle.std.proofs.Common.{◌≡◌, sym, subst, arith}
 use Rattle.rows.proofs.Group.{times_row, times_on, associative, times_from}
 use Rattle.rows.proofs.Members.{member}
 use Rattle.rows.proofs.row.Row.times.Goals as goal
@@ -20,7 +20,7 @@ product c =
     times_from 12 _ _ _ (member 12 _ c.args.other.now.once).long c.loop-p.invariant.0 (λ k l. c.loop-p.invariant.1 k (omega arith))
 
 pub invariant_of-result : goal.invariant_of-result
-invariant_of-result c = (subst (RowOf 12) (sym (product c)) (times_row 12 _ _ c.args.self.now.once c.args.other.now.once), tt)
+invariant_of-result c = record { once = subst (RowOf 12) (sym (product c)) (times_row 12 _ _ c.args.self.now.once c.args.other.now.once) }
 
 pub returns : goal.returns
 returns c =
