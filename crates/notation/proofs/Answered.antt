@@ -1,8 +1,8 @@
 -- What the reading comes to is what the text means, and nothing else is.
-use Rattle.std.proofs.Common.{◌≡◌, ℕ, ◌+◌, ◌<◌, ◌≤◌, List, length, Ok, Err, Result, sym, ◌∙◌, subst, arith}
+use Rattle.std.proofs.Common.{ℕ, ◌<◌, ◌≤◌, List, length, Ok, Err, Result, sym, subst, arith}
 use Rattle.notation.proofs.Law.{Told, law, only_first, only_right, right_or_first}
 use Rattle.notation.specs.Drafts.{Answers}
-use Rattle.notation.specs.Faults.{First, Right}
+use Rattle.notation.specs.Faults.{Right}
 use Rattle.notation.specs.Meaning.{Means, Only}
 use Rattle.notation.specs.Reading.{outcome}
 use Rattle.notation.specs.Tokens.{TokenAt}

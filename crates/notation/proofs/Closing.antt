@@ -1,5 +1,5 @@
 -- A block that is whole: doubled if it says so, and held to the limit.
-use Rattle.std.proofs.Common.{◌≡◌, ℕ, ◌<◌, ◌≤◌, Bool, true, false, cond, ltb, List, [], ◌∷◌, ◌++◌, map, reverse, length, drop, sym, refl, ap, ◌∙◌, subst, arith}
+use Rattle.std.proofs.Common.{◌≡◌, ℕ, ◌≤◌, Bool, true, false, cond, ltb, List, [], ◌∷◌, ◌++◌, map, reverse, length, drop, sym, refl, ap, ◌∙◌, arith}
 use mathlib.Core.List.{reverse_aux}
 use Rattle.notation.proofs.Drafting.{mirrored}
 use Rattle.notation.specs.Changes.{ascending, can_ring, made}

@@ -1,9 +1,9 @@
 -- What the reader has in hand, change by change.
-use Rattle.std.proofs.Common.{◌≡◌, ℕ, zero, suc, ◌+◌, ◌-◌, ◌<◌, ◌≤◌, Bool, true, false, List, [], ◌∷◌, ◌++◌, map, reverse, length, get_or, take, drop, set, sym, refl, ap, ◌∙◌, subst, ⊎_elim, arith}
+use Rattle.std.proofs.Common.{◌≡◌, ℕ, ◌+◌, ◌-◌, ◌<◌, ◌≤◌, Bool, true, false, List, [], ◌∷◌, ◌++◌, map, reverse, length, get_or, take, drop, set, sym, refl, ap, ◌∙◌, subst, ⊎_elim, arith}
 use Rattle.notation.specs.Drafts.{listed, Holding}
 use Rattle.notation.specs.declared.change.Change.{Change}
 use Rattle.notation.specs.declared.changes.Changes.{Changes}
-use Rattle.std.proofs.lemmas.List.{append_assoc, append-nil, drop_all, get_or_append_left, get_or-append_right, get_or-drop, get_or-map, get_or-reverse, get_or-take, length-append, length-drop, length-map, length_push, length-reverse, length-take, length-take-le, map_push, take_all, take_more, take_more_set}
+use Rattle.std.proofs.lemmas.List.{append_assoc, get_or_append_left, get_or-append_right, get_or-drop, get_or-map, get_or-reverse, get_or-take, length-append, length-drop, length-map, length_push, length-reverse, length-take, length-take-le, map_push, take_all, take_more, take_more_set}
 use Rattle.std.proofs.lemmas.Bool.{both_ways, cases_Bool}
 
 -- the places made in a change

@@ -1,13 +1,12 @@
 -- Reading token by token comes to the same as reading byte by byte.
-use Rattle.std.proofs.Common.{◌≡◌, ℕ, zero, suc, ◌+◌, ◌-◌, ◌<◌, ◌≤◌, Bool, true, false, cond, eqb, ltb, ◌⊎◌, List, [], ◌∷◌, ◌++◌, map, length, get_or, take, drop, sym, refl, ap, ◌∙◌, subst, inl, inr, ⊎_elim, arith, take-append-drop}
+use Rattle.std.proofs.Common.{◌≡◌, ℕ, suc, ◌+◌, ◌-◌, ◌<◌, ◌≤◌, Bool, true, false, cond, eqb, ltb, ◌⊎◌, List, [], ◌∷◌, ◌++◌, map, length, get_or, take, drop, sym, refl, ap, ◌∙◌, subst, inl, inr, ⊎_elim, arith, take-append-drop}
 use Rattle.notation.specs.Changes.{ascending, can_ring, made}
 use Rattle.notation.specs.Drafts.{turn, runs, stepped, seen_behind, finished}
 use Rattle.notation.specs.Grammar.{Sign}
-use Rattle.notation.specs.Reading.{Kind, bell, cross, point, comma, sign, other, mark, kind, fresh, signed, crossed, running, pointed, State, Step, goes, halts, Outcome, stopped, seeing, add, all_changes, close, behind_run, then, in_run, step, done, ended, reading}
+use Rattle.notation.specs.Reading.{Kind, bell, cross, point, comma, sign, other, mark, kind, fresh, signed, crossed, running, pointed, State, Step, goes, halts, Outcome, stopped, seeing, add, all_changes, close, behind_run, then, in_run, step, done, reading}
 use Rattle.notation.specs.Tokens.{TokenAt, Single}
 use Rattle.notation.specs.declared.draft.Seen.{Seen}
 use Rattle.notation.specs.declared.draft.Seen.TheVariants.{Fresh, Signed, Crossed, Ran, Pointed}
-use Rattle.notation.specs.declared.fault.Fault.{Fault}
 use Rattle.notation.specs.declared.fault.Fault.TheVariants.{Places, Unrung, Many}
 use Rattle.notation.specs.declared.token.Token.{Token}
 use Rattle.notation.specs.declared.token.Token.TheVariants.{Run, Cross, Point, Comma, And, Plus, Other}

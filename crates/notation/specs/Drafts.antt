@@ -1,5 +1,5 @@
 -- What the reader has in hand, and what each token does to it, in terms of the reading from the left.
-use Rattle.std.specs.Prelude.{◌≡◌, ℕ, ◌<◌, Bool, true, false, List, [], ◌∷◌, ◌++◌, map, length, take, Ok, Err, Result}
+use Rattle.std.specs.Prelude.{◌≡◌, ℕ, ◌<◌, Bool, true, false, List, ◌++◌, map, length, take, Ok, Err, Result}
 use Rattle.notation.specs.Changes.{made}
 use Rattle.notation.specs.Grammar.{Sign}
 use Rattle.notation.specs.Reading.{Kind, cross, point, comma, sign, other, State, Step, goes, halts, Outcome, read, stopped, add, close, done, first, begin, behind_cross, behind_run, behind_point}

@@ -1,5 +1,5 @@
 -- Reading a notation from the left, up to the first fault: the value that the reader answers. The law of notations ties it to the grammar.
-use Rattle.std.specs.Prelude.{ℕ, suc, Bool, true, false, cond, List, [], ◌∷◌, ◌++◌, length, ◌==◌, nat_lt}
+use Rattle.std.specs.Prelude.{ℕ, suc, cond, List, [], ◌∷◌, ◌++◌, length, ◌==◌, nat_lt}
 use Rattle.rows.specs.Text.{named}
 use Rattle.notation.specs.Changes.{ascending, made, can_ring}
 use Rattle.notation.specs.Grammar.{Sign, doubled}

@@ -1,5 +1,5 @@
 -- The next token of a text.
-use Rattle.std.specs.Prelude.{◌≡◌, ℕ, ◌+◌, ◌-◌, ◌<◌, ◌≤◌, ◌⊎◌, List, length, Some, None, Option, slice_index, slice_range}
+use Rattle.std.specs.Prelude.{◌≡◌, ℕ, ◌+◌, ◌<◌, ◌≤◌, ◌⊎◌, List, length, Some, None, Option, slice_index, slice_range}
 use Rattle.notation.specs.Grammar.{Sign}
 use Rattle.notation.specs.Reading.{Kind, kind, cross, point, comma, sign, other}
 use Rattle.notation.specs.declared.token.Token.{Token}

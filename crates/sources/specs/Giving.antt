@@ -1,5 +1,5 @@
 -- How a source goes on, and how layers count.
-use Rattle.std.specs.Prelude.{ℕ, zero, suc, ◌+◌, ◌*◌, min, Bool, true, false, cond, List, length, Some, None, Option, nat_le}
+use Rattle.std.specs.Prelude.{ℕ, ◌+◌, ◌*◌, min, Bool, true, false, cond, List, length, Some, None, Option, nat_le}
 
 -- how many were given after an answer: one more with each number
 abbrev pub moved : Option ℕ → ℕ → ℕ

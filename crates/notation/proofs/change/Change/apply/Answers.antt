@@ -1,5 +1,5 @@
 use Rattle.std.proofs.Common.{◌≡◌, sym, ◌∙◌, subst, arith}
-use Rattle.notation.proofs.Effects.{Ringing, ringing_none, ringing_all, ringing_stay, ringing_cross, both_cross, rung_row, rung_product, rung_on}
+use Rattle.notation.proofs.Effects.{ringing_none, ringing_all, ringing_stay, ringing_cross, both_cross, rung_row, rung_product, rung_on}
 use Rattle.notation.proofs.change.Change.apply.Goals as goal
 use Rattle.notation.proofs.change.Change.apply.Goals.{After-loop-p}
 use Rattle.notation.specs.Changes.{rung}
@@ -15,7 +15,7 @@ loop-p-preserved-then-self-p c = (omega arith, ringing_stay _ _ _ c.loop-p.p c.a
 pub swap-requires : goal.swap-requires
 swap-requires c =
     let next = both_cross _ _ _ c.loop-p.p c.args.self.now.twelve (omega arith) c.loop-p.invariant.1 c.if-self-p.false in
-    record { a-in-bounds = omega (arith, c.loop-p.invariant.1.long); b-in-bounds = omega (arith, next.0, c.loop-p.invariant.1.long) }
+    record { a_in_bounds = omega (arith, c.loop-p.invariant.1.long); b_in_bounds = omega (arith, next.0, c.loop-p.invariant.1.long) }
 
 pub loop-p-preserved : goal.loop-p-preserved
 loop-p-preserved c =
@@ -27,7 +27,7 @@ changed : (c : After-loop-p) → c.loop-p.bells ≡ rung c.args.self.now.made c.
 changed c = ringing_all _ _ _ c.loop-p.p c.args.self.now.twelve (omega arith) c.loop-p.invariant.1
 
 pub invariant_of-result : goal.invariant_of-result
-invariant_of-result c = (subst (RowOf 12) (sym (changed c)) (rung_row 12 _ _ c.args.row.now.once), tt)
+invariant_of-result c = record { once = subst (RowOf 12) (sym (changed c)) (rung_row 12 _ _ c.args.row.now.once) }
 
 pub returns : goal.returns
 returns c =

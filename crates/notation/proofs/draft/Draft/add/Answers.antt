@@ -1,4 +1,4 @@
-use Rattle.std.proofs.Common.{◌≡◌, true, [], ◌∷◌, ◌++◌, map, sym, ap, ◌∙◌, subst}
+use Rattle.std.proofs.Common.{◌≡◌, true, [], ◌∷◌, ◌++◌, map, ap, ◌∙◌, subst}
 use Rattle.notation.proofs.Closing.{add_goes, with_change, with_change_made}
 use Rattle.notation.proofs.Drafting.{was_down}
 use Rattle.notation.proofs.draft.Draft.add.Goals as goal

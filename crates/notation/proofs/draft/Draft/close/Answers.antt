@@ -1,4 +1,4 @@
-use Rattle.std.proofs.Common.{◌≡◌, ℕ, true, false, [], map, length, sym, refl, ap, ◌∙◌, subst, append-nil, arith}
+use Rattle.std.proofs.Common.{◌≡◌, ℕ, false, map, length, sym, refl, ap, ◌∙◌, subst, append-nil, arith}
 use Rattle.notation.proofs.Closing.{split_changes, all_doubled, all_plain, closed, close_many, close_goes}
 use Rattle.notation.proofs.Drafting.{listed_long}
 use Rattle.notation.proofs.draft.Draft.close.Goals as goal

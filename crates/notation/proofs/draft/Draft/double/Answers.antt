@@ -1,4 +1,4 @@
-use Rattle.std.proofs.Common.{◌≡◌, ◌+◌, ◌-◌, ◌<◌, ◌≤◌, false, ◌++◌, length, take, ◌∙◌, subst, arith}
+use Rattle.std.proofs.Common.{◌≡◌, ◌+◌, ◌-◌, ◌<◌, false, ◌++◌, length, take, ◌∙◌, subst, arith}
 use Rattle.notation.proofs.Drafting.{double_all, double_more, held_long, listed_at, mirrored, was_down}
 use Rattle.notation.proofs.draft.Draft.double.Goals as goal
 use Rattle.notation.specs.Drafts.{listed, Holding}

@@ -1,4 +1,4 @@
-use Rattle.std.proofs.Common.{◌≡◌, ℕ, ◌-◌, ◌≤◌, Bool, true, false, List, ◌++◌, length, take}
+use Rattle.std.proofs.Common.{◌≡◌, ◌-◌, Bool, true, false, List, ◌++◌, length, take}
 use Rattle.notation.proofs.Drafting.{mirrored}
 use Rattle.notation.proofs.draft.Draft.double.Given as goal
 use Rattle.notation.specs.Drafts.{Holds}

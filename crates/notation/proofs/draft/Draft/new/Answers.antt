@@ -4,4 +4,4 @@ use Rattle.notation.specs.Changes.{can_ring}
 
 pub invariant_of-changes : goal.invariant_of-changes
 unfolding can_ring
-invariant_of-changes c = (refl, (refl, tt))
+invariant_of-changes c = record { twelve = refl; rings = refl }

@@ -1,5 +1,5 @@
 use Rattle.std.proofs.Common.{ap, ◌∙◌}
-use Rattle.sources.proofs.Giving.{Goes, join_first, join_second, join_turned}
+use Rattle.sources.proofs.Giving.{join_first, join_second, join_turned}
 use Rattle.sources.proofs.join.JoinSource.next.Goals as goal
 use Rattle.sources.specs.Giving.{moved}
 use Rattle.std.specs.List.{slice_get}

@@ -1,5 +1,5 @@
-use Rattle.std.proofs.Common.{sym, ap, ◌∙◌, arith}
-use Rattle.sources.proofs.Giving.{Goes, parts_over, parts_on, parts_end, parts_again}
+use Rattle.std.proofs.Common.{ap, ◌∙◌, arith}
+use Rattle.sources.proofs.Giving.{parts_over, parts_on, parts_end, parts_again}
 use Rattle.sources.proofs.parts.PartsSource.next.Goals as goal
 use Rattle.sources.specs.Giving.{moved}
 use Rattle.std.specs.List.{slice_get}
