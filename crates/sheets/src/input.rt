@@ -1,4 +1,5 @@
 // Where a program has its sheet from.
+use anyhow::anyhow;
 use std::io::Read;
 use std::{env, fs};
 
@@ -12,8 +13,7 @@ pub fn input(rt: &HostRuntime, program: &str) -> anyhow::Result<Vec<u8>> {
         return Ok(bytes);
     };
     if words.next().is_some() {
-        let refusal = format!(in rt.alloc(); "{program} takes one sheet at most")?;
-        return Err(refusal.into());
+        return Err(anyhow!("{program} takes one sheet at most"));
     }
     Ok(fs::read(rt, path.as_str())?)
 }

@@ -30,7 +30,7 @@ pub invariant_of-result : goal.invariant_of-result
 invariant_of-result c =
     let lead = c.args.lead.now in
     let ending = c.args.ending.now in
-    (ap length (pasted c) ∙ (length-paste lead.list (lead.count - ending.count) ending.list ending.count (omega (arith, lead.room, lead.few)) (omega (arith, ending.room, ending.few)) ∙ lead.room), (lead.few, tt))
+    record { room = ap length (pasted c) ∙ (length-paste lead.list (lead.count - ending.count) ending.list ending.count (omega (arith, lead.room, lead.few)) (omega (arith, ending.room, ending.few)) ∙ lead.room); few = lead.few }
 
 pub returns : goal.returns
 returns c =

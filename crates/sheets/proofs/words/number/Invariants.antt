@@ -1,4 +1,4 @@
-use Rattle.std.proofs.Common.{◌≡◌, ◌-◌, ◌^◌, min, true, take, drop}
+use Rattle.std.proofs.Common.{◌≡◌, ◌-◌, ◌^◌, min, take, drop}
 use Rattle.sheets.proofs.words.number.Given as goal
 use Rattle.sheets.specs.Words.{all_digits, value}
 

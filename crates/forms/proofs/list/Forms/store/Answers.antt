@@ -10,12 +10,9 @@ returns-in-Some g c = record {
 }
 
 pub invariant_of-push_reserved : goal.invariant_of-push_reserved
-invariant_of-push_reserved g c = (c.requires.some, (c.lead_rows-rows.ensures, (no_repeat _ _ c.args.changes.count (listed_long c.args.changes) c.lead_rows-rows.ensures c.in_default.ensures, tt)))
+invariant_of-push_reserved g c = record { some = c.requires.some; rung = c.lead_rows-rows.ensures; apart = no_repeat _ _ c.args.changes.count (listed_long c.args.changes) c.lead_rows-rows.ensures c.in_default.ensures }
 
 pub invariant_of-self : goal.invariant_of-self
 invariant_of-self g c =
     let list = c.args.self.now.list in
-    let n = c.args.self.now.stage.bells in (
-      omega (arith, c.push_reserved.ensures.len, c.requires.room, list.ok.0),
-      (omega (arith, c.push_reserved.ensures.capacity, c.args.self.now.room), (forms_on_pushed n (vec_items list) _ _ c.push_reserved.ensures.items c.args.self.now.staged c.requires.staged, tt)),
-    )
+    let n = c.args.self.now.stage.bells in record { few = omega (arith, c.push_reserved.ensures.len, c.requires.room, list.ok.0); room = omega (arith, c.push_reserved.ensures.capacity, c.args.self.now.room); staged = forms_on_pushed n (vec_items list) _ _ c.push_reserved.ensures.items c.args.self.now.staged c.requires.staged }

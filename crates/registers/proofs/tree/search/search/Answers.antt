@@ -14,7 +14,7 @@ loop-at-preserved c =
     let ns = c.args.nodes.now in
     let n = c.args.count in
     let e : below ns n c.loop-at.at c.args.code ≡ Some c.in-Some.next = sym c.below.ensures ∙ c.in-Some.is in
-    ((under ns n c.loop-at.at c.args.code c.in-Some.next e).within, stop_next ns n c.args.code c.loop-at.at c.in-Some.next c.requires.1 c.loop-at.invariant.0 c.loop-at-test.true e ∙ c.loop-at.invariant.1)
+    ((under ns n c.loop-at.at c.args.code c.in-Some.next e).within, stop_next ns n c.args.code c.loop-at.at c.in-Some.next c.requires.by_index c.loop-at.invariant.0 c.loop-at-test.true e ∙ c.loop-at.invariant.1)
 
 pub returns-after-loop-at : goal.returns-after-loop-at
 returns-after-loop-at c = record {

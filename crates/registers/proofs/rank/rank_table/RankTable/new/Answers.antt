@@ -15,7 +15,7 @@ loop-i-preserved g c = freed_more _ _ c.loop-i.i _ (omega (arith, c.used-i-end.e
 
 pub invariant_of-result : goal.invariant_of-result
 unfolding chained trail
-invariant_of-result g c = (refl, (freed_none _ _ c.loop-i.i c.loop-i.invariant (omega (arith, c.used-i-end.ensures)), tt))
+invariant_of-result g c = record { linked = refl; kept = freed_none _ _ c.loop-i.i c.loop-i.invariant (omega (arith, c.used-i-end.ensures)) }
 
 pub returns : goal.returns
 unfolding trail

@@ -12,4 +12,4 @@ pub invariant_of-self : goal.invariant_of-self
 invariant_of-self g c =
     let table = c.args.self.now in
     let holds = rewritten_holds _ _ c.in-Some.last c.in-Some.is table.linked c.in-Some.last.cell table.kept in
-    (holds.0, (holds.1, tt))
+    record { linked = holds.0; kept = holds.1 }

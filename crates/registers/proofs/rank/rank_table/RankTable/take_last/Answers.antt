@@ -15,13 +15,13 @@ pub invariant_of-self : goal.invariant_of-self
 invariant_of-self g c =
     let table = c.args.self.now in
     let holds = rewritten_holds _ _ c.in-Some.last c.in-Some.is table.linked _ table.kept in
-    (holds.0, (holds.1, tt))
+    record { linked = holds.0; kept = holds.1 }
 
 pub invariant_of-self-2 : goal.invariant_of-self-2
 invariant_of-self-2 g c =
     let table = c.args.self.now in
     let removes = removed _ _ c.in-Some.last c.in-Some.is table.linked table.kept _ refl _ c.previous-self.ensures in
-    (removes.0.0, (removes.0.1, tt))
+    record { linked = removes.0.0; kept = removes.0.1 }
 
 pub returns : goal.returns
 returns g c =

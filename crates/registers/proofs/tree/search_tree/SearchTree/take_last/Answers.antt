@@ -10,7 +10,7 @@ pub invariant_of-self : goal.invariant_of-self
 invariant_of-self g c =
     let t = c.args.self.now in
     let le = c.if-self-eq0.false in
-    (omega (arith, t.room), (omega (arith, t.few), ((λ l w. t.upward l (omega arith)), (found_fewer t.nodes.now (t.count - 1) t.count (omega arith) t.upward t.found, tt))))
+    record { room = omega (arith, t.room); few = omega (arith, t.few); upward = (λ l w. t.upward l (omega arith)); found = found_fewer t.nodes.now (t.count - 1) t.count (omega arith) t.upward t.found }
 
 pub returns : goal.returns
 returns g c =
