@@ -1,15 +1,15 @@
 -- What a form that is stored brings along: its rows do not repeat, and its changes are on the stage.
-use Rattle.std.proofs.Common.{◌≡◌, ℕ, zero, suc, ◌+◌, ◌-◌, ◌<◌, ◌≤◌, Bool, true, false, ◌&&◌, ◌||◌, eqb, ltb, leb, List, [], ◌∷◌, ◌++◌, map, reverse, length, get_or, take, drop, Some, None, Option, sym, refl, ap, ◌∙◌, subst, arith}
+use Rattle.std.proofs.Common.{◌≡◌, ℕ, zero, suc, ◌+◌, ◌-◌, ◌<◌, ◌≤◌, Bool, true, false, ◌||◌, ltb, leb, List, [], ◌∷◌, ◌++◌, map, reverse, length, get_or, take, drop, Some, None, sym, refl, ap, ◌∙◌, subst, arith}
 use Rattle.forms.proofs.Leading.{rows_long}
 use Rattle.forms.specs.Leads.{lead_rows, row_at, FirstRepeat, NoRepeat, change_on, changes_on}
 use Rattle.forms.specs.Repeats.{bells_of, RepeatIn}
 use Rattle.forms.specs.Staged.{forms_on}
 use Rattle.forms.specs.declared.form.Form.{Form}
 use Rattle.notation.proofs.Drafting.{listed_long}
-use Rattle.notation.specs.Changes.{places, has, making, made}
+use Rattle.notation.specs.Changes.{places, has, made}
 use Rattle.notation.specs.Drafts.{listed}
 use Rattle.notation.specs.Faults.{Right}
-use Rattle.notation.specs.Grammar.{Sign, Tree, written, doubled, block_changes, more_changes, in_order}
+use Rattle.notation.specs.Grammar.{Sign, written, doubled, block_changes, more_changes, in_order}
 use Rattle.rows.proofs.Members.{each_from}
 use Rattle.rows.specs.declared.row.Row.{Row}
 use Rattle.std.proofs.lemmas.List.FromFn.{get_or-range_with_len, get_or-map-range_with_len, length-range_with_len}

@@ -1,5 +1,5 @@
 -- A row that stood already.
-use Rattle.std.specs.Prelude.{◌≡◌, ℕ, ◌<◌, List, [], length, Some, None, Option, ◌≢◌, slice_index_or}
+use Rattle.std.specs.Prelude.{◌≡◌, ℕ, ◌<◌, List, [], Some, None, Option, ◌≢◌, slice_index_or}
 use Rattle.rows.specs.declared.row.Row.{Row}
 
 abbrev pub bells_of : Row → List ℕ

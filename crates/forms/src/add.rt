@@ -142,8 +142,14 @@ mod tests {
             Err(FormFault::Letter)
         );
         assert!(rt; forms.list.len() == 2);
-        assert_eq!(rt; &forms.list[0].turn().characters()[0..6], b"135264");
-        assert_eq!(rt; &forms.list[1].turn().characters()[0..6], b"123564");
+        assert_eq!(rt;
+            &forms.list[0].turn().characters()[0..6],
+            b"135264".as_slice()
+        );
+        assert_eq!(rt;
+            &forms.list[1].turn().characters()[0..6],
+            b"123564".as_slice()
+        );
         Ok(())
     }
 }

@@ -1,5 +1,5 @@
 -- How a sheet is cut into lines and words, what its numbers are, and what each line says.
-use Rattle.std.specs.Prelude.{◌≡◌, ℕ, suc, ◌+◌, ◌-◌, ◌*◌, ◌^◌, ◌<◌, ◌≤◌, min, Bool, true, false, cond, ◌&&◌, List, [], ◌∷◌, ◌++◌, length, take, drop, Some, None, codes, fold, Option, ◌==◌, nat_le}
+use Rattle.std.specs.Prelude.{◌≡◌, ℕ, suc, ◌+◌, ◌-◌, ◌*◌, ◌^◌, ◌<◌, min, Bool, true, false, cond, ◌&&◌, List, [], ◌∷◌, ◌++◌, length, take, drop, Some, None, codes, fold, Option, ◌==◌, nat_le}
 use Rattle.lead.specs.declared.command.Command.{Command}
 use Rattle.lead.specs.declared.command.Command.TheVariants.{Blank, Stage, Method, Call, Unknown}
 use Rattle.std.specs.Borrow.{Bor}

@@ -121,13 +121,13 @@ fn stage<'a>(arguments: &'a [u8]) -> Option<Command<'a>>
 fn known<'a>(word: &[u8], arguments: &'a [u8]) -> Option<Command<'a>>
     ensures { Known word.now arguments.now result }
 {
-    if word == b"stage" {
+    if word == b"stage".as_slice() {
         return stage(arguments);
     }
-    if word == b"method" {
+    if word == b"method".as_slice() {
         return method(arguments);
     }
-    if word == b"call" {
+    if word == b"call".as_slice() {
         return call(arguments);
     }
     None

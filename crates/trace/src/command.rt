@@ -51,13 +51,13 @@ fn enter<'a>(arguments: &'a [u8]) -> Option<Command<'a>>
 fn known<'a>(word: &[u8], arguments: &'a [u8]) -> Option<Command<'a>>
     ensures { Known word.now arguments.now result }
 {
-    if word == b"lend" {
+    if word == b"lend".as_slice() {
         return lend(arguments);
     }
-    if word == b"enter" {
+    if word == b"enter".as_slice() {
         return enter(arguments);
     }
-    if word == b"find" {
+    if word == b"find".as_slice() {
         return Some(Command::Find { key: arguments });
     }
     None
@@ -67,16 +67,16 @@ fn known<'a>(word: &[u8], arguments: &'a [u8]) -> Option<Command<'a>>
 fn alone<'a>(line: &[u8]) -> Option<Command<'a>>
     ensures { Alone line.now result }
 {
-    if line == b"rows" {
+    if line == b"rows".as_slice() {
         return Some(Command::Rows);
     }
-    if line == b"clashes" {
+    if line == b"clashes".as_slice() {
         return Some(Command::Clashes);
     }
-    if line == b"count" {
+    if line == b"count".as_slice() {
         return Some(Command::Count);
     }
-    if line == b"back" {
+    if line == b"back".as_slice() {
         return Some(Command::Back);
     }
     None

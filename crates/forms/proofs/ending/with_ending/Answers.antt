@@ -1,4 +1,4 @@
-use Rattle.std.proofs.Common.{◌≡◌, ◌+◌, ◌-◌, ◌≤◌, ◌++◌, map, length, get_or, take, set, sym, refl, ap, ◌∙◌, arith}
+use Rattle.std.proofs.Common.{◌≡◌, ◌+◌, ◌-◌, ◌++◌, map, length, get_or, take, set, sym, ap, ◌∙◌, arith}
 use lib.Seq.{paste}
 use Rattle.forms.proofs.ending.with_ending.Goals as goal
 use Rattle.forms.proofs.ending.with_ending.Goals.{After-loop-k}

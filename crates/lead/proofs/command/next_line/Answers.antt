@@ -1,4 +1,4 @@
-use Rattle.std.proofs.Common.{◌+◌, ◌≤◌, length, sym, ◌∙◌, arith}
+use Rattle.std.proofs.Common.{◌+◌, length, sym, ◌∙◌, arith}
 use Rattle.lead.proofs.command.next_line.Goals as goal
 use Rattle.lead.specs.Sheets.{upto}
 use Rattle.std.proofs.lemmas.List.{drop_all, take_all, take_rest}

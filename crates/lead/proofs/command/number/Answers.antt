@@ -1,4 +1,4 @@
-use Rattle.std.proofs.Common.{◌≡◌, ◌+◌, ◌-◌, ◌<◌, min, ◌⊎◌, length, get_or, take, sym, ap, ◌∙◌, inl, inr, arith}
+use Rattle.std.proofs.Common.{◌+◌, ◌-◌, ◌<◌, min, ◌⊎◌, length, get_or, sym, ap, ◌∙◌, inl, inr, arith}
 use Rattle.lead.proofs.Cutting.{digits_all, digits_more, digits_not, digits_some, value_more}
 use Rattle.lead.proofs.command.number.Goals as goal
 use Rattle.lead.proofs.command.number.Goals.{then-byte-lt48-via-then-byte-lt48, then-byte-lt48-via-else-byte-lt48+then-byte-gt57}

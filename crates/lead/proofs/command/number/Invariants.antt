@@ -1,4 +1,4 @@
-use Rattle.std.proofs.Common.{◌≡◌, ◌-◌, ◌^◌, min, true, take, drop}
+use Rattle.std.proofs.Common.{◌≡◌, ◌-◌, ◌^◌, min, take, drop}
 use Rattle.lead.proofs.command.number.Given as goal
 use Rattle.lead.specs.Sheets.{all_digits, value}
 

@@ -1,4 +1,4 @@
-use Rattle.std.proofs.Common.{◌≡◌, ◌-◌, ◌<◌, true, length, take, vec_items, sym, refl, ap, ◌∙◌, subst, arith}
+use Rattle.std.proofs.Common.{◌≡◌, ◌-◌, ◌<◌, true, length, take, vec_items, sym, refl, ap, subst, arith}
 use Rattle.forms.proofs.Storing.{right_on, changes_on_take, changes_on_append, forms_on_at}
 use Rattle.forms.proofs.Taking.{call_stored, may_call, no_call, some_call}
 use Rattle.forms.proofs.list.Forms.add_call.Goals as goal
