@@ -1,7 +1,7 @@
 -- Entering a key, finding it and taking it back, on any register.
-use Rattle.std.proofs.Common.{◌≡◌, ℕ, zero, suc, ◌<◌, ◌≤◌, Bool, true, false, cond, eqb, leb, List, [], ◌∷◌, ◌++◌, length, Some, None, Ok, Err, Option, Result, sym, refl, ap, ◌∙◌, inl, inr, arith}
+use Rattle.std.proofs.Common.{◌≡◌, ℕ, Bool, true, false, cond, eqb, leb, List, [], ◌∷◌, ◌++◌, length, Some, None, Ok, Err, Option, Result, sym, refl, ap, ◌∙◌, arith}
 use Rattle.registers.proofs.Entries.{taken_last}
-use Rattle.registers.specs.Entries.{Entry, marked, held, entering, entered, taken}
+use Rattle.registers.specs.Entries.{Entry, marked, held, entering, entered}
 use Rattle.registers.specs.Trials.{undone, Passes}
 use Rattle.registers.specs.declared.entered.Entered.{Entered}
 use Rattle.registers.specs.declared.entered.Entered.TheVariants.{Added, Held}

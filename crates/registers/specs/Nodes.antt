@@ -1,5 +1,5 @@
 -- The nodes of a search tree, the first n of which are its entries in the order of entering.
-use Rattle.std.specs.Prelude.{ℕ, zero, suc, ◌<◌, Bool, cond, ◌&&◌, List, [], ◌∷◌, map, length, take, Some, None, Option, ◌==◌, nat_lt, slice_index_or}
+use Rattle.std.specs.Prelude.{ℕ, zero, suc, Bool, cond, ◌&&◌, List, map, take, Some, None, Option, ◌==◌, nat_lt, slice_index_or}
 use Rattle.registers.specs.Entries.{Entry}
 use Rattle.registers.specs.declared.tree.node.Node.{Node}
 

@@ -3,9 +3,7 @@ ghost use Rattle.std.specs.Prelude.{◌≡◌, ℕ, ◌*◌, ◌<◌, ◌≤◌,
 ghost use Rattle.registers.specs.Keys.{clash_code, OutOfSixteen};
 ghost use Rattle.rows.specs.Code.{fact};
 ghost use Rattle.rows.specs.Rows.{On};
-ghost use Rattle.std.proofs.Common.{rules, arith};
 
-use crate::key::Key;
 use rows::row::Row;
 
 #[derive(Clone, Copy)]
@@ -34,15 +32,5 @@ impl ClashKey {
         ensures below { (n : ℕ) → n ≤ 12 → On n self.now.row.bells → result < 256 * fact n }
     {
         self.row.code() as u64 * 256 + 16 * self.first as u64 + self.second as u64
-    }
-}
-
-impl Key for ClashKey {
-    ghost code = { λ key. clash_code key.first key.second key.row.bells };
-
-    ghost apart = { first_of (Prim.search rules, Prim.grind (arith, Self.row.coded.inj)) };
-
-    fn code(&self) -> u64 {
-        ClashKey::code(self)
     }
 }

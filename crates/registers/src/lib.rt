@@ -2,6 +2,7 @@
 #![tactic(auto)]
 
 pub mod clash;
+mod clash_key;
 pub mod entered;
 pub mod fault;
 pub mod key;

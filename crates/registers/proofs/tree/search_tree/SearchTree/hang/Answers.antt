@@ -55,6 +55,6 @@ returns g c =
     let r = grown ns n c.args.code c.args.mark c.args.above ms c.requires.count_bound t.upward t.found c.requires.above_value c.requires.above_lt_count c.requires.above_nonzero hung in
     record {
       list = r.list;
-      lent = elim c.if-count-gt0.branch [ then-count-gt0 w ↦ ap (λ s. s.1.0.name) w.self-is | else-count-gt0 w ↦ ap (λ s. s.1.0.name) w.self-is ];
+      lent = elim c.if-count-gt0.branch [ then-count-gt0 w ↦ ap (λ s. s.1.0.ghost_name) w.self-is | else-count-gt0 w ↦ ap (λ s. s.1.0.ghost_name) w.self-is ];
       beyond = (r.long, r.beyond);
     }
