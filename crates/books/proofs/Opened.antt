@@ -2,7 +2,7 @@
 use Rattle.std.proofs.Common.{◌≡◌, ℕ, ◌*◌, ◌≤◌, min, List, [], refl, ap, ◌∙◌, not-suc-le-zero}
 use Rattle.books.specs.Forms.{shapes, leads_in}
 use Rattle.books.specs.Leads.{rows_of, NoRepeat}
-use Rattle.books.specs.Ringing.{placed, Holds}
+use Rattle.books.specs.Ringing.{Holds}
 use Rattle.books.specs.declared.lead.Lead.{Lead}
 use Rattle.forms.specs.declared.form.Form.{Form}
 use Rattle.registers.specs.Entries.{Entry}

@@ -3,16 +3,15 @@ use Rattle.std.proofs.Common.{◌≡◌, ℕ, zero, suc, ◌+◌, ◌<◌, List,
 use Rattle.books.proofs.Sounding.{shape_long}
 use Rattle.books.specs.Forms.{shape}
 use Rattle.books.specs.Ringing.{placed}
-use Rattle.forms.proofs.Leading.{rows_long}
 use Rattle.forms.proofs.Storing.{form_row}
 use Rattle.forms.specs.Leads.{lead_rows}
 use Rattle.forms.specs.declared.form.Form.{Form}
 use Rattle.notation.proofs.Drafting.{listed_long}
 use Rattle.notation.specs.Drafts.{listed}
 use Rattle.rows.specs.Code.{code}
-use Rattle.rows.specs.Rows.{rounds, times}
+use Rattle.rows.specs.Rows.{times}
 use Rattle.rows.specs.declared.row.Row.{Row}
-use Rattle.std.proofs.lemmas.List.{get_or-map, get_or-take, length-map, length-take-le}
+use Rattle.std.proofs.lemmas.List.{get_or-map, get_or-take, length-map}
 
 -- an entry for each row
 pub placed_long : (p : ℕ) (xs : List (List ℕ)) → length (placed p xs) ≡ length xs

@@ -1,5 +1,5 @@
 -- When a book can be opened on a register of rows.
-use Rattle.std.specs.Prelude.{◌≡◌, ℕ, ◌*◌, ◌<◌, ◌≤◌, min, ◌⊎◌, List, [], Some, None, Option, ◌≢◌}
+use Rattle.std.specs.Prelude.{◌≡◌, ℕ, ◌*◌, ◌≤◌, min, List, [], Some, None, Option, ◌≢◌}
 use Rattle.books.specs.declared.fault.OpeningFault.{OpeningFault}
 use Rattle.books.specs.declared.fault.OpeningFault.TheVariants.{Limit, Held, Small, Memory}
 use Rattle.registers.specs.Entries.{Entry}

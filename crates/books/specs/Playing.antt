@@ -1,5 +1,5 @@
 -- What a play answers, and the leads that then stand.
-use Rattle.std.specs.Prelude.{◌≡◌, ℕ, ◌+◌, ◌<◌, ◌≤◌, List, length, take, Ok, Err, Result, slice_index}
+use Rattle.std.specs.Prelude.{◌≡◌, ℕ, ◌+◌, ◌<◌, List, length, take, Ok, Err, Result, slice_index}
 use Rattle.books.specs.Law.{Turned, Reached}
 use Rattle.books.specs.Leads.{Shape, Lead, rung}
 use Rattle.books.specs.declared.fault.PlayFault.{PlayFault}

@@ -1,5 +1,5 @@
 -- What follows from the law of the answers.
-use Rattle.std.specs.Prelude.{◌≡◌, ℕ, ◌+◌, ◌<◌, ◌≤◌, ◌↔◌, List, [], ◌∷◌, ◌++◌, length, take, ◌≢◌, slice_index, slice_index_or}
+use Rattle.std.specs.Prelude.{◌≡◌, ℕ, ◌<◌, ◌≤◌, ◌↔◌, List, [], ◌∷◌, ◌++◌, length, take, ◌≢◌, slice_index, slice_index_or}
 use Rattle.books.specs.Law.{after, standing, Past, Free, Turned, Reached, TrueTouch, Gives, At, before, Lawful}
 use Rattle.books.specs.Leads.{Shape, Lead, shape_at, rows_of, new_rows, added, rung, Shares, NoRepeat, FirstAgain}
 use Rattle.books.specs.declared.call.Answer.{Answer}

@@ -1,7 +1,7 @@
 -- What the words of a key say.
-use Rattle.std.proofs.Common.{◌≡◌, ℕ, ◌+◌, ◌<◌, ◌≤◌, min, true, false, ◌⊎◌, List, ◌∷◌, ◌++◌, length, take, drop, sym, refl, ap, ◌∙◌, ⊎_elim, arith}
+use Rattle.std.proofs.Common.{◌≡◌, ℕ, ◌+◌, ◌<◌, ◌≤◌, min, false, ◌⊎◌, List, ◌∷◌, ◌++◌, length, take, drop, sym, refl, ap, ◌∙◌, ⊎_elim, arith}
 use Rattle.sheets.proofs.Parting.{front_is, back_is, not_parted, cut_word, cut_whole, cut_front, cut_back}
-use Rattle.sheets.specs.Words.{upto, digits, value, Word}
+use Rattle.sheets.specs.Words.{upto, digits, value}
 use Rattle.std.proofs.lemmas.Bool.{true≢false}
 use Rattle.trace.specs.Keys.{FormNumber, ClashText, RowRefused, ClashRefused}
 use Rattle.trace.specs.declared.written.NoKey.{NoKey}

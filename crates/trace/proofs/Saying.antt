@@ -4,7 +4,7 @@ use Rattle.sheets.proofs.Parting.{has_none, last_is, not_parted, cut_whole, cut_
 use Rattle.sheets.specs.Words.{upto, digits, value, Word, BlankLine}
 use Rattle.std.proofs.lemmas.List.{take_all}
 use Rattle.std.proofs.lemmas.Bool.{true≢false}
-use Rattle.trace.specs.Script.{MarkOf, NoMark, NumberOf, LendArgs, EnterArgs, LendOf, EnterOf, SaysAlone, SaysWith, Says, Parsed, Alone, Known}
+use Rattle.trace.specs.Script.{MarkOf, NoMark, NumberOf, LendArgs, EnterArgs, LendOf, EnterOf, SaysAlone, SaysWith, Says, Parsed, Known}
 use Rattle.trace.specs.declared.command.Command.{Command}
 use Rattle.trace.specs.declared.command.Command.TheVariants.{Blank, Lend, Rows, Clashes, Enter, Find, Count, Back, Unknown}
 

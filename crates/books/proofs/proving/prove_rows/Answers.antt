@@ -1,4 +1,4 @@
-use Rattle.std.proofs.Common.{map, take, sym, ap, ◌∙◌, subst}
+use Rattle.std.proofs.Common.{map, take, ap, subst}
 use Rattle.books.proofs.Opened.{kept_from}
 use Rattle.books.proofs.Sounding.{shapes_sound}
 use Rattle.books.proofs.proving.prove_rows.Goals as goal

@@ -59,28 +59,13 @@ add-requires g c =
     let self = c.args.self.now in
     let len = self.touch.leads.ok.0 in
     let most = length_few self.stage.bells self.forms.now self.touch.leads.items self.stage.most self.staged self.known self.linked in
-    (omega (arith, self.room, c.if-stand-self.false, c.len-stand.ensures), omega (arith, self.few, self.small, self.long))
+    (record { leads_len_bound = omega (arith, self.room, c.if-stand-self.false, c.len-stand.ensures); rows_bound = omega (arith, self.few, self.small, self.long) })
 
 pub invariant_of-self-2 : goal.invariant_of-self-2
 invariant_of-self-2 g c =
     let self = c.args.self.now in
     let left = c.add.new.self in
-    let w = with self.forms.now self.touch.leads.items c.args.form self.touch.next c.index-forms-form.result c.if-form-self.false c.index-forms-form.is self.headed left.leads.items c.add.ensures.leads self.known self.linked in (
-      omega (arith, left.leads.ok.0, w.more, self.touch.leads.ok.0, c.len-stand.ensures, c.if-stand-self.false),
-      (
-        self.small,
-        (
-          omega (arith, self.room, c.add.ensures.room),
-          (
-            self.staged,
-            (
-              w.known,
-              (c.add.ensures.next ∙ w.next, (w.linked, (omega (arith, c.add.ensures.rows, self.long, w.longer), tt))),
-            ),
-          ),
-        ),
-      ),
-    )
+    let w = with self.forms.now self.touch.leads.items c.args.form self.touch.next c.index-forms-form.result c.if-form-self.false c.index-forms-form.is self.headed left.leads.items c.add.ensures.leads self.known self.linked in record { few = omega (arith, left.leads.ok.0, w.more, self.touch.leads.ok.0, c.len-stand.ensures, c.if-stand-self.false); small = self.small; room = omega (arith, self.room, c.add.ensures.room); staged = self.staged; known = w.known; headed = c.add.ensures.next ∙ w.next; linked = w.linked; long = omega (arith, c.add.ensures.rows, self.long, w.longer) }
 
 pub returns : goal.returns
 returns g c =

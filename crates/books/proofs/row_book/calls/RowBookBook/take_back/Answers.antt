@@ -24,22 +24,7 @@ invariant_of-self g c =
     let self = c.args.self.now in
     let left = c.remove.new.self in
     let gone = c.remove.ensures.stands c.in-Some.lead last.0 last.1 in
-    let w = without self.forms.now self.touch.leads.items left.leads.items last.0 c.in-Some.lead c.index-self-lead.result last.1 gone.0 self.known self.linked in (
-      omega (arith, self.few, left.leads.ok.0, self.touch.leads.ok.0, w.fewer),
-      (
-        self.small,
-        (
-          omega (arith, self.room, c.remove.ensures.room),
-          (
-            self.staged,
-            (
-              w.known,
-              (ap (λ (r : Row). r.bells) gone.1 ∙ w.next, (w.linked, (omega (arith, gone.2, self.long, w.shorter), tt))),
-            ),
-          ),
-        ),
-      ),
-    )
+    let w = without self.forms.now self.touch.leads.items left.leads.items last.0 c.in-Some.lead c.index-self-lead.result last.1 gone.0 self.known self.linked in record { few = omega (arith, self.few, left.leads.ok.0, self.touch.leads.ok.0, w.fewer); small = self.small; room = omega (arith, self.room, c.remove.ensures.room); staged = self.staged; known = w.known; headed = ap (λ (r : Row). r.bells) gone.1 ∙ w.next; linked = w.linked; long = omega (arith, gone.2, self.long, w.shorter) }
 
 pub returns : goal.returns
 returns g c =
