@@ -1,6 +1,6 @@
 // What a register can hold: keys whose codes differ where the keys differ.
 ghost use Rattle.std.specs.Prelude.{◌≡◌, ℕ};
-ghost use Rattle.rows.specs.Code.{code as row-code};
+ghost use Rattle.rows.specs.Code.{code as row_code};
 ghost use Rattle.registers.specs.KeysLemmas.{row_apart};
 
 use rows::row::Row;
@@ -15,7 +15,7 @@ pub trait Key {
 }
 
 impl Key for Row {
-    ghost code = { λ row. row-code row.bells };
+    ghost code = { λ row. row_code row.bells };
 
     ghost apart = { row_apart };
 

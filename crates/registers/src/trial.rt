@@ -4,7 +4,7 @@ ghost use Rattle.registers.specs.Entries.{Entry, marked, entering, entered};
 ghost use Rattle.registers.specs.Keys.{clash_code};
 ghost use Rattle.registers.specs.Lent.{used, Beyond};
 ghost use Rattle.registers.specs.Trials.{undone, Passes};
-ghost use Rattle.rows.specs.Code.{code as row-code, fact};
+ghost use Rattle.rows.specs.Code.{code as row_code, fact};
 
 use crate::clash::ClashKey;
 use crate::entered::Entered;
@@ -64,7 +64,7 @@ pub fn try_both<A: Register<Row>, B: Register<ClashKey>>(
     clash: &ClashKey,
     mark: u32,
 ) -> (Trial, Trial)
-    ensures row { Passes (A.Register.reach rows.old) (A.Register.capacity rows.old) (A.Register.entries rows.old) (row-code row.now.bells) mark result.0 }
+    ensures row { Passes (A.Register.reach rows.old) (A.Register.capacity rows.old) (A.Register.entries rows.old) (row_code row.now.bells) mark result.0 }
     ensures clash { Passes (B.Register.reach clashes.old) (B.Register.capacity clashes.old) (B.Register.entries clashes.old) (clash_code clash.now.first clash.now.second clash.now.row.bells) mark result.1 }
     ensures lists { (A.Register.entries rows.new ≡ A.Register.entries rows.old) × (B.Register.entries clashes.new ≡ B.Register.entries clashes.old) }
 {
@@ -79,7 +79,7 @@ pub fn try_trees(
     clash: &ClashKey,
     mark: u32,
 ) -> (Trial, Trial)
-    ensures row { Passes (256 * fact 12) (used (length nodes.old)) [] (row-code row.now.bells) mark result.0 }
+    ensures row { Passes (256 * fact 12) (used (length nodes.old)) [] (row_code row.now.bells) mark result.0 }
     ensures clash { Passes (256 * fact 12) (used (length more_nodes.old)) [] (clash_code clash.now.first clash.now.second clash.now.row.bells) mark result.1 }
 {
     let mut row_tree = SearchTree::new(nodes);
@@ -95,7 +95,7 @@ pub fn try_tables(
     clash: &ClashKey,
     mark: u32,
 ) -> (Trial, Trial)
-    ensures row { Passes (used (length cells.old)) (used (length cells.old)) [] (row-code row.now.bells) mark result.0 }
+    ensures row { Passes (used (length cells.old)) (used (length cells.old)) [] (row_code row.now.bells) mark result.0 }
     ensures clash { Passes (used (length more_cells.old)) (used (length more_cells.old)) [] (clash_code clash.now.first clash.now.second clash.now.row.bells) mark result.1 }
 {
     let mut row_table = RankTable::new(cells);
@@ -105,7 +105,7 @@ pub fn try_tables(
 
 // One entry in a tree that is then let go: its owner has the nodes back, those beyond use as they were.
 pub fn lend_nodes(nodes: &mut [Node], row: &Row, mark: u32) -> Result<Entered, RegisterFault>
-    ensures answer { result ≡ entering (256 * fact 12) (used (length nodes.old)) [] (row-code row.now.bells) }
+    ensures answer { result ≡ entering (256 * fact 12) (used (length nodes.old)) [] (row_code row.now.bells) }
     ensures beyond { Beyond nodes.old nodes.new }
 {
     let mut tree = SearchTree::new(nodes);
@@ -114,7 +114,7 @@ pub fn lend_nodes(nodes: &mut [Node], row: &Row, mark: u32) -> Result<Entered, R
 
 // The same in a rank table.
 pub fn lend_cells(cells: &mut [Cell], row: &Row, mark: u32) -> Result<Entered, RegisterFault>
-    ensures answer { result ≡ entering (used (length cells.old)) (used (length cells.old)) [] (row-code row.now.bells) }
+    ensures answer { result ≡ entering (used (length cells.old)) (used (length cells.old)) [] (row_code row.now.bells) }
     ensures beyond { Beyond cells.old cells.new }
 {
     let mut table = RankTable::new(cells);
