@@ -43,6 +43,8 @@ def code(path, text):
 
 # Names that would fall together with another.
 APART = {"Row-fault": "OfRow", "Clash-fault": "OfClash"}
+# A type that port.py spells as it spells a function.
+TYPE = re.compile(r"\bGoes_on\b")
 
 
 def new_spelling(name):
@@ -111,7 +113,7 @@ for path in files("specs/*.antt", "proofs/*.antt", "proofs/*/**/*.antt", "src/**
         turned[new].add(name)
         return new
 
-    out = "".join(DASHED.sub(turn, piece) if is_code else piece for is_code, piece in parts(path, text))
+    out = "".join(TYPE.sub("GoesOn", DASHED.sub(turn, piece)) if is_code else piece for is_code, piece in parts(path, text))
     words = set(re.findall(ID, bare))
     for new, olds in turned.items():
         if len(olds) > 1 or (new in words and not path.endswith(".rt")):

@@ -1,7 +1,7 @@
 -- A text that walks to an accepting state is spelled by a tree, and a text that walks to any state goes on.
 use Rattle.std.proofs.Common.{◌≡◌, ℕ, suc, Bool, true, false, ◌⊎◌, List, [], ◌∷◌, ◌++◌, sym, refl, ap, ◌∙◌, inl, inr, arith}
 use Rattle.std.proofs.lemmas.List.{append_assoc}
-use Rattle.notation.specs.Grammar.{Bell, Item, dash, ex, run, Sign, Block, bytes, items, spell_block, spell_more, Notation, Goes_on}
+use Rattle.notation.specs.Grammar.{Bell, Item, dash, ex, run, Sign, Block, bytes, items, spell_block, spell_more, Notation, GoesOn}
 use Rattle.notation.specs.declared.fault.Fault.{Fault}
 use Rattle.notation.specs.Reading.{Kind, Seen, State, Step, goes, halts, kind, start}
 use Rattle.notation.proofs.Shape.{shape, walk, walk_append, Accepts, Means, means}
@@ -105,7 +105,7 @@ bell_goes j v (Seen.running p ws) st = (_, refl, tt)
 bell_goes j v Seen.pointed st = (_, refl, tt)
 
 -- a text that is not rejected goes on: with one place more it is a notation
-pub goes_on : (u : List ℕ) (st : State) → walk 0 (goes start) u ≡ goes st → Goes_on u
+pub goes_on : (u : List ℕ) (st : State) → walk 0 (goes start) u ≡ goes st → GoesOn u
 goes_on u st h =
     let r = walk_append u (49 ∷ []) 0 (goes start) in
     let g = bell_goes r.0 1 st.seen st in
@@ -117,7 +117,7 @@ arrived i (goes st) v end h = (st, refl)
 arrived i (halts f) v end h = absurd (halted h)
 
 -- a text that goes on is not rejected
-pub not_rejected : (u : List ℕ) → Goes_on u → (st : State) × (walk 0 (goes start) u ≡ goes st)
+pub not_rejected : (u : List ℕ) → GoesOn u → (st : State) × (walk 0 (goes start) u ≡ goes st)
 not_rejected u (v, (x, e)) =
     let r = walk_append u v 0 (goes start) in
     let t = spelled x in

@@ -3,7 +3,7 @@ use Rattle.std.specs.Prelude.{◌≡◌, ℕ, ◌+◌, ◌-◌, ◌<◌, ◌≤�
 use Rattle.rows.specs.Text.{named}
 use Rattle.notation.specs.Causes.{number}
 use Rattle.notation.specs.Changes.{ascending, made, can_ring}
-use Rattle.notation.specs.Grammar.{Item, Block, Tree, items, spell, Notation, Goes_on, written, in_order}
+use Rattle.notation.specs.Grammar.{Item, Block, Tree, items, spell, Notation, GoesOn, written, in_order}
 use Rattle.notation.specs.declared.fault.Fault.{Fault}
 use Rattle.notation.specs.declared.fault.Fault.TheVariants.{Byte, Early, Places, Unrung, Many}
 
@@ -46,9 +46,9 @@ pub record BlocksAt (t : List ℕ) (j s : ℕ) (tree : Tree) : Type 0 where
 -- the fault f of the text t shows when j bytes are read
 abbrev pub Shows : ℕ → List ℕ → ℕ → Fault → Type 0
 -- some notation begins with the bytes before k, and none with the byte at k added
-Shows n t j (Byte k) = (k < length t) × (j ≡ k + 1) × Goes_on (take k t) × (Goes_on (take (k + 1) t) → ⊥)
+Shows n t j (Byte k) = (k < length t) × (j ≡ k + 1) × GoesOn (take k t) × (GoesOn (take (k + 1) t) → ⊥)
 -- the text ends at k, where every notation that begins so goes on
-Shows n t j (Early k) = (k ≡ length t) × (j ≡ k) × Goes_on t × (Notation t → ⊥)
+Shows n t j (Early k) = (k ≡ length t) × (j ≡ k) × GoesOn t × (Notation t → ⊥)
 -- the change that begins at p has a place above n, or places not ascending
 Shows n t j (Places p) = (x : Tree) × ChangeAt t j p x × (ascending n (written (last_item x)) ≡ false)
 -- the change that begins at p cannot be rung

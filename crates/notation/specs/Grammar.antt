@@ -59,8 +59,8 @@ abbrev pub Notation : List ℕ → Type 0
 Notation w = (t : Tree) × (spell t ≡ w)
 
 -- it goes on if some notation begins with it
-abbrev pub Goes_on : List ℕ → Type 0
-Goes_on w = (v : List ℕ) × Notation (w ++ v)
+abbrev pub GoesOn : List ℕ → Type 0
+GoesOn w = (v : List ℕ) × Notation (w ++ v)
 
 -- the places written for a change: none for a cross
 abbrev pub written : Item → List ℕ
