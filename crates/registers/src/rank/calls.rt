@@ -89,8 +89,8 @@ impl<'a, K> RankTable<'a, K> {
     // One entry more; the cell of the one before it is filled.
     fn add(&mut self, code: u32, mark: u32)
         requires code_bound { code < used (length self.old.cells.now) }
-        requires last_len_bound { length (rank_entries self.old.cells.now self.old.last) < used (length self.old.cells.now) }
-        requires last_value { marked code (rank_entries self.old.cells.now self.old.last) ≡ None }
+        requires room { length (rank_entries self.old.cells.now self.old.last) < used (length self.old.cells.now) }
+        requires absent { marked code (rank_entries self.old.cells.now self.old.last) ≡ None }
         ensures list { rank_entries self.new.cells.now self.new.last ≡ rank_entries self.old.cells.now self.old.last ++ record { code = code; mark = mark } ∷ [] }
         ensures lent { self.new.cells.ghost_name ≡ self.old.cells.ghost_name }
         ensures beyond { Beyond self.old.cells.now self.new.cells.now }

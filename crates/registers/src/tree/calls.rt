@@ -62,7 +62,7 @@ impl<'a, K> SearchTree<'a, K> {
         requires count_bound { self.old.count < used (length self.old.nodes.now) }
         requires above_value { above ≡ stop self.old.nodes.now self.old.count code self.old.count 0 }
         requires above_lt_count { 0 < self.old.count → above < self.old.count }
-        requires above_nonzero { 0 < self.old.count → (node_at self.old.nodes.now above).code ≢ code }
+        requires above_other { 0 < self.old.count → (node_at self.old.nodes.now above).code ≢ code }
         ensures list { tree_entries self.new.nodes.now self.new.count ≡ tree_entries self.old.nodes.now self.old.count ++ record { code = code; mark = mark } ∷ [] }
         ensures lent { self.new.nodes.ghost_name ≡ self.old.nodes.ghost_name }
         ensures beyond { Beyond self.old.nodes.now self.new.nodes.now }

@@ -38,7 +38,7 @@ invariant_of-self-2 g c =
       | then-count-gt0 w ↦ inl (w.if-count-gt0.true, ap (λ s. s.1.0.now) w.self-is ∙ ap (set ls c.args.above) w.linked.ensures)
       | else-count-gt0 w ↦ inr (omega (arith, w.if-count-gt0.false), ap (λ s. s.1.0.now) w.self-is)
     ] in
-    let r = grown ns n c.args.code c.args.mark c.args.above ms c.requires.count_bound t.upward t.found c.requires.above_value c.requires.above_lt_count c.requires.above_nonzero hung in
+    let r = grown ns n c.args.code c.args.mark c.args.above ms c.requires.count_bound t.upward t.found c.requires.above_value c.requires.above_lt_count c.requires.above_other hung in
     record { room = omega (arith, r.long); few = omega arith; upward = r.upward; found = r.found }
 
 pub returns : goal.returns
@@ -52,7 +52,7 @@ returns g c =
       | then-count-gt0 w ↦ inl (w.if-count-gt0.true, ap (λ s. s.1.0.now) w.self-is ∙ ap (set ls c.args.above) w.linked.ensures)
       | else-count-gt0 w ↦ inr (omega (arith, w.if-count-gt0.false), ap (λ s. s.1.0.now) w.self-is)
     ] in
-    let r = grown ns n c.args.code c.args.mark c.args.above ms c.requires.count_bound t.upward t.found c.requires.above_value c.requires.above_lt_count c.requires.above_nonzero hung in
+    let r = grown ns n c.args.code c.args.mark c.args.above ms c.requires.count_bound t.upward t.found c.requires.above_value c.requires.above_lt_count c.requires.above_other hung in
     record {
       list = r.list;
       lent = elim c.if-count-gt0.branch [ then-count-gt0 w ↦ ap (λ s. s.1.0.ghost_name) w.self-is | else-count-gt0 w ↦ ap (λ s. s.1.0.ghost_name) w.self-is ];
