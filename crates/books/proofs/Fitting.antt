@@ -1,48 +1,58 @@
 -- What a row book that has kept its register answers, and that it keeps it.
-use Rattle.std.proofs.Common.{◌≡◌, ℕ, ◌+◌, ◌-◌, ◌*◌, ◌<◌, ◌≤◌, min, true, List, [], ◌∷◌, ◌++◌, map, length, get_or, take, Ok, Err, Result, sym, refl, ap, ◌∙◌, subst, arith}
-use Rattle.books.specs.Forms.{shape, shapes, lead, leads_in, forms_known}
+use Rattle.std.proofs.Common.{◌≡◌, ℕ, ◌+◌, ◌*◌, ◌<◌, ◌≤◌, false, not, List, [], ◌∷◌, ◌++◌, map, length, get_or, Some, Ok, Err, Result, sym, refl, ap, ◌∙◌, subst, All, arith}
+use Rattle.books.specs.Forms.{shape, shapes, lead, leads_in, FormsKnown}
 use Rattle.books.specs.Law.{Past, Free, Turned}
 use Rattle.books.specs.Leads.{Shape, Lead, shape_at, next_head, rows_of_lead, rows_of, new_lead, new_rows, added, Linked, NoRepeat}
-use Rattle.books.specs.Ringing.{Holds, Moves, Enters}
+use Rattle.books.specs.Opening.{Large}
+use Rattle.books.specs.Ringing.{without, Holds, Enters}
 use Rattle.books.specs.declared.fault.RingFault.{RingFault}
 use Rattle.books.specs.declared.fault.RingFault.TheVariants.{Form as NoForm, Limit, Again, Register}
 use Rattle.books.specs.declared.lead.Lead.{Lead as LeadValue}
 use Rattle.books.proofs.Keeping.{again, holds_front, holds_more, never, none_again}
-use Rattle.books.proofs.Linking.{Staged, known_front, known_last, known_push, known_rightly, lead_staged, linked_front, linked_last, linked_push, next_push, next_staged, new_few, rows_few, rows_push, rows_staged}
+use Rattle.books.proofs.Linking.{Staged, known_rightly, lead_staged, linked_front, linked_last, linked_push, next_push, next_staged, new_few, rows_few, rows_push, rows_staged}
 use Rattle.books.proofs.Repeating.{Rightly, lead_once, rows_added}
 use Rattle.books.proofs.Sounding.{shape_long, shapes_on, shapes_short, shapes_sound}
-use Rattle.forms.specs.Staged.{forms_on}
+use Rattle.forms.specs.Staged.{FormsOn}
 use Rattle.forms.specs.declared.form.Form.{Form}
-use Rattle.registers.specs.Entries.{Entry}
-use Rattle.rows.specs.Code.{fact}
-use Rattle.rows.specs.Rows.{times}
+use Rattle.registers.specs.Entries.{Entry, Shelf, with_entries}
+use Rattle.rows.specs.Rows.{rounds, times}
 use Rattle.rows.specs.declared.row.Row.{Row}
+use Rattle.std.proofs.lemmas.Bool.{not-false}
+use Rattle.std.proofs.lemmas.Slice.Eq.{bytes_eq-Decides}
+use Rattle.std.specs.Str.{bytes_eq}
 use Rattle.std.proofs.lemmas.List.{get_or-map, length-append, length-map, length_push, map_push}
-use Rattle.std.specs.List.{AllByRecursion as All}
+use Rattle.std.proofs.lemmas.List.Elements.{All-pop, All-push}
 
 -- what is read from the list of forms has the shape that the law sees there
 shape_read : (fs : List Form) (k : ℕ) (d : Form) → k < length fs → shape_at (shapes fs) k ≡ shape (get_or fs k d)
 shape_read fs k d l = get_or-map shape fs k d _ l
 
--- entering the rows of a lead has kept the register, and its answer is the law's
-abbrev pub Rung : List Shape → ℕ → List Lead → ℕ → Result Unit RingFault → List Entry → Type 0
-Rung forms limit leads f (Ok _) after = Holds after (rows_of forms (added forms leads f)) × Free forms limit leads f
-Rung forms limit leads f (Err e) after = Holds after (rows_of forms leads) × Turned forms limit leads f e
+-- a register holds the rows of these leads, and is large enough
+abbrev pub Kept : ℕ → ℕ → List Shape → List Lead → Shelf → Type 0
+Kept n limit forms leads s = Holds s.entries (rows_of forms leads) × Large n limit s
 
-module _ (n : ℕ) (fs : List Form) (ls : List LeadValue) (small : n ≤ 12) (staged : forms_on n fs ≡ true) (known : forms_known (length fs) ls ≡ true) (linked : Linked (shapes fs) (leads_in ls)) where
+-- other entries make a register no smaller
+pub large_stays : (n limit : ℕ) (s after : Shelf) (es : List Entry) → after ≡ with_entries es s → Large n limit s → Large n limit after
+large_stays n limit s after es is large = subst (Large n limit) (sym is) large
+
+-- entering the rows of a lead has kept the register, and its answer is the law's
+abbrev pub Rung : ℕ → ℕ → List Shape → List Lead → ℕ → Result Unit RingFault → Shelf → Type 0
+Rung n limit forms leads f (Ok _) after = Kept n limit forms (added forms leads f) after × Free forms limit leads f
+Rung n limit forms leads f (Err e) after = Kept n limit forms leads after × Turned forms limit leads f e
+
+module _ (n : ℕ) (fs : List Form) (ls : List LeadValue) (small : n ≤ 12) (staged : FormsOn n fs) (known : FormsKnown (length fs) ls) (linked : Linked (shapes fs) (leads_in ls)) where
   -- every lead has a form of the list and a row for its head
   rightly : All (Rightly (shapes fs)) (leads_in ls)
-  rightly = known_rightly (shapes fs) (length fs) ls (sym (length-map fs shape)) known
+  rightly = known_rightly fs ls known
 
   -- no lead has more than 64 rows
   pub length_few : length (rows_of (shapes fs) (leads_in ls)) ≤ 64 * length ls
   length_few = omega (arith, rows_few n (shapes fs) (shapes_sound fs) (shapes_on n fs staged) (shapes_short fs) (leads_in ls) rightly, length-map ls lead)
 
   -- the rows of a new lead are entered: all are new, or the first that stands in the book is found
-  pub rung_well : (limit reach capacity p f : ℕ) (es after : List Entry) → fact n ≤ reach → min (fact n) (64 * limit) ≤ capacity → p ≡ length (rows_of (shapes fs) (leads_in ls))
-      → Past (shapes fs) limit (leads_in ls) f → Holds es (rows_of (shapes fs) (leads_in ls)) → (r : Result Unit RingFault) → Enters reach capacity es p (new_rows (shapes fs) (leads_in ls) f) r after
-      → Rung (shapes fs) limit (leads_in ls) f r after
-  rung_well limit reach capacity p f es after far room next past holds = by
+  pub rung_well : (limit p f : ℕ) (s after : Shelf) → p ≡ length (rows_of (shapes fs) (leads_in ls)) → Past (shapes fs) limit (leads_in ls) f → Kept n limit (shapes fs) (leads_in ls) s
+      → (r : Result Unit RingFault) → Enters s p (new_rows (shapes fs) (leads_in ls) f) r after → Rung n limit (shapes fs) (leads_in ls) f r after
+  rung_well limit p f s after next past kept = by
     where
       -- the next head is a row on the stage
       head : Staged n (next_head (shapes fs) (leads_in ls))
@@ -65,60 +75,54 @@ module _ (n : ℕ) (fs : List Form) (ls : List LeadValue) (small : n ≤ 12) (st
       most = omega (arith, length_few, length-map ls lead, new_few n (shapes fs) (shapes_sound fs) (shapes_on n fs staged) (shapes_short fs) (leads_in ls) f past.0, past.1)
 
       -- by what was answered
-      by : (r : Result Unit RingFault) → Enters reach capacity es p (new_rows (shapes fs) (leads_in ls) f) r after → Rung (shapes fs) limit (leads_in ls) f r after
+      by : (r : Result Unit RingFault) → Enters s p (new_rows (shapes fs) (leads_in ls) f) r after → Rung n limit (shapes fs) (leads_in ls) f r after
       by (Ok u) h = (
-        subst (Holds after) (sym (rows_added (shapes fs) (leads_in ls) f)) (holds_more n (rows_of (shapes fs) (leads_in ls)) (new_rows (shapes fs) (leads_in ls) f) es p small book_staged new_staged new_once holds next after h.0 h.1),
-        (past, none_again n (rows_of (shapes fs) (leads_in ls)) (new_rows (shapes fs) (leads_in ls) f) es p small book_staged new_staged new_once holds next h.1),
+        (
+          subst (Holds after.entries) (sym (rows_added (shapes fs) (leads_in ls) f)) (holds_more n (rows_of (shapes fs) (leads_in ls)) (new_rows (shapes fs) (leads_in ls) f) s p small book_staged new_staged new_once kept.0 next after h.0 h.1),
+          large_stays n limit s after _ h.0 kept.1,
+        ),
+        (past, none_again n (rows_of (shapes fs) (leads_in ls)) (new_rows (shapes fs) (leads_in ls) f) s p small book_staged new_staged new_once kept.0 next h.1),
       )
       by (Err NoForm) h = absurd h
       by (Err Limit) h = absurd h
       by (Err (Again i j)) h = (
-        subst (λ l. Holds l (rows_of (shapes fs) (leads_in ls))) (sym h.0) holds,
-        (past, again n (rows_of (shapes fs) (leads_in ls)) (new_rows (shapes fs) (leads_in ls) f) es p small book_staged new_staged new_once holds next i j h.1.0 h.1.1 h.1.2 h.1.3 h.1.4),
+        subst (Kept n limit (shapes fs) (leads_in ls)) (sym h.0) kept,
+        (past, again n (rows_of (shapes fs) (leads_in ls)) (new_rows (shapes fs) (leads_in ls) f) s p small book_staged new_staged new_once kept.0 next i j h.1.0 h.1.1 h.1.2 h.1.3 h.1.4),
       )
       by (Err (Register e)) h =
-          absurd (never n (rows_of (shapes fs) (leads_in ls)) (new_rows (shapes fs) (leads_in ls) f) es p small book_staged new_staged new_once holds next reach capacity (64 * limit) h.1.0 e far room most h.1.1 h.1.3 h.1.2)
+          absurd (never n (rows_of (shapes fs) (leads_in ls)) (new_rows (shapes fs) (leads_in ls) f) s p small book_staged new_staged new_once kept.0 next limit h.1.0 e kept.1 most h.1.1 h.1.3 h.1.2)
 
 -- the rows of the last lead are taken back, so that the register holds those of the others
-taken_well : (forms : List Shape) (ls : List Lead) (l : Lead) (es after : List Entry) (number : ℕ) → number ≡ length (shape_at forms l.form).rows → after ≡ take (length es - number) es
-    → Holds es (rows_of forms (ls ++ l ∷ [])) → Holds after (rows_of forms ls)
-taken_well forms ls l es after number e is holds =
-    holds_front es after (rows_of forms ls) (rows_of_lead forms l) number (e ∙ sym (length-map (shape_at forms l.form).rows (times l.head))) is (subst (Holds es) (rows_push forms ls l) holds)
+taken_well : (n limit : ℕ) (forms : List Shape) (ls : List Lead) (l : Lead) (s after : Shelf) (number : ℕ) → number ≡ length (shape_at forms l.form).rows → after ≡ without number s
+    → Kept n limit forms (ls ++ l ∷ []) s → Kept n limit forms ls after
+taken_well n limit forms ls l s after number e is kept = (
+  holds_front s after (rows_of forms ls) (rows_of_lead forms l) number (e ∙ sym (length-map (shape_at forms l.form).rows (times l.head))) is (subst (Holds s.entries) (rows_push forms ls l) kept.0),
+  large_stays n limit s after _ is kept.1,
+)
+
+-- rows that passed the test for equality are both rounds where one is
+pub came_round : (a b h : List ℕ) → false ≡ not (bytes_eq a b) → a ≡ h → b ≡ rounds 12 → h ≡ rounds 12
+came_round a b h e is round = sym is ∙ (bytes_eq-Decides a b).0 (not-false (bytes_eq a b) (sym e)) ∙ round
 
 -- as many leads as the vector has elements
 pub leads_long : (ls : List LeadValue) (n : ℕ) → n ≡ length ls → n ≡ length (leads_in ls)
 leads_long ls n e = e ∙ sym (length-map ls lead)
 
--- a list of length 0 has no lead
-pub leads_none : (ls : List LeadValue) → 0 ≡ length ls → leads_in ls ≡ []
-leads_none [] e = refl
-leads_none (l ∷ ls) e = absurd (omega arith)
-
--- a book has kept its register, which is large enough
-abbrev pub Kept : ℕ → ℕ → List Form → List LeadValue → ℕ → ℕ → List Entry → Type 0
-Kept n limit fs ls reach capacity es = Holds es (rows_of (shapes fs) (leads_in ls)) × (fact n ≤ reach) × (min (fact n) (64 * limit) ≤ capacity)
-
--- what is so of a register stays so of one that has the same reach and capacity
-pub kept_as : (n limit : ℕ) (fs : List Form) (ls : List LeadValue) (reach reach' capacity capacity' : ℕ) (es : List Entry) → (reach' ≡ reach) × (capacity' ≡ capacity)
-    → Holds es (rows_of (shapes fs) (leads_in ls)) → fact n ≤ reach → min (fact n) (64 * limit) ≤ capacity → Kept n limit fs ls reach' capacity' es
-kept_as n limit fs ls reach reach' capacity capacity' es same holds far room = (holds, let e = same.0 in omega arith, let e = same.1 in omega arith)
-
 -- the leads without the last, as the book and its register have them
 pub record Without (fs : List Form) (ls after : List LeadValue) (l : LeadValue) (d : Form) : Type 0 where
-  pub form : l.form < length fs
   pub leads : leads_in ls ≡ leads_in after ++ lead l ∷ []
-  pub known : forms_known (length fs) after ≡ true
+  pub known : FormsKnown (length fs) after
   pub linked : Linked (shapes fs) (leads_in after)
   -- its head comes next again
   pub next : l.head.bells ≡ next_head (shapes fs) (leads_in after)
   pub fewer : length ls ≡ length after + 1
   pub shorter : length (rows_of (shapes fs) (leads_in ls)) ≡ length (rows_of (shapes fs) (leads_in after)) + (get_or fs l.form d).changes.count
-  pub held : (es es' : List Entry) → es' ≡ take (length es - (get_or fs l.form d).changes.count) es → Holds es (rows_of (shapes fs) (leads_in ls)) → Holds es' (rows_of (shapes fs) (leads_in after))
+  pub kept : (n limit : ℕ) (s s' : Shelf) → s' ≡ without (get_or fs l.form d).changes.count s → Kept n limit (shapes fs) (leads_in ls) s → Kept n limit (shapes fs) (leads_in after) s'
 
-module _ (fs : List Form) (ls after front : List LeadValue) (l : LeadValue) (d : Form) (is : ls ≡ front ++ l ∷ []) (left : after ≡ front) (known : forms_known (length fs) ls ≡ true) (linked : Linked (shapes fs) (leads_in ls)) where
+module _ (fs : List Form) (ls after front : List LeadValue) (l : LeadValue) (d : Form) (is : ls ≡ front ++ l ∷ []) (left : after ≡ front) (known : FormsKnown (length fs) ls) (linked : Linked (shapes fs) (leads_in ls)) where
   -- the last lead's form is in the list
   last_form : l.form < length fs
-  last_form = known_last (length fs) front l (subst (λ x. forms_known (length fs) x ≡ true) is known)
+  last_form = (All-pop (λ (x : LeadValue). x.form < length fs) ls front (Some l) is known).1
 
   -- the leads as the law sees them end with the last one
   leads_last : leads_in ls ≡ leads_in after ++ lead l ∷ []
@@ -129,23 +133,22 @@ module _ (fs : List Form) (ls after front : List LeadValue) (l : LeadValue) (d :
   last_long = sym (shape_long (get_or fs l.form d)) ∙ ap (λ (s : Shape). length s.rows) (sym (shape_read fs l.form d last_form))
 
   -- a lead and its rows stand behind those of the others, so that they go alone
-  pub without : Without fs ls after l d
-  without = record {
-    form = last_form;
+  pub last_gone : Without fs ls after l d
+  last_gone = record {
     leads = leads_last;
-    known = subst (λ x. forms_known (length fs) x ≡ true) (sym left) (known_front (length fs) front l (subst (λ x. forms_known (length fs) x ≡ true) is known));
+    known = subst (FormsKnown (length fs)) (sym left) (All-pop (λ (x : LeadValue). x.form < length fs) ls front (Some l) is known).0;
     linked = linked_front (shapes fs) (leads_in after) (lead l) (subst (Linked (shapes fs)) leads_last linked);
     next = linked_last (shapes fs) (leads_in after) (lead l) (subst (Linked (shapes fs)) leads_last linked);
     fewer = ap length is ∙ length_push front l ∙ ap (λ x. length x + 1) (sym left);
     shorter = ap (λ x. length (rows_of (shapes fs) x)) leads_last ∙ (ap length (rows_push (shapes fs) (leads_in after) (lead l)) ∙ (length-append (rows_of (shapes fs) (leads_in after)) (rows_of_lead (shapes fs) (lead l))
         ∙ ap (λ k. length (rows_of (shapes fs) (leads_in after)) + k) (length-map (shape_at (shapes fs) l.form).rows (times l.head.bells) ∙ sym last_long)));
-    held = λ es es' e holds. taken_well (shapes fs) (leads_in after) (lead l) es es' (get_or fs l.form d).changes.count last_long e (subst (λ x. Holds es (rows_of (shapes fs) x)) leads_last holds);
+    kept = λ n limit s s' e kept. taken_well n limit (shapes fs) (leads_in after) (lead l) s s' (get_or fs l.form d).changes.count last_long e (subst (λ x. Kept n limit (shapes fs) x s) leads_last kept);
   }
 
 -- the leads with one more, as the book has them
 pub record With (fs : List Form) (ls after : List LeadValue) (f : ℕ) (head : Row) (rung : Form) : Type 0 where
   pub leads : leads_in after ≡ added (shapes fs) (leads_in ls) f
-  pub known : forms_known (length fs) after ≡ true
+  pub known : FormsKnown (length fs) after
   pub linked : Linked (shapes fs) (leads_in after)
   -- head × turn comes next
   pub next : times head.bells (shape rung).turn ≡ next_head (shapes fs) (leads_in after)
@@ -162,12 +165,12 @@ module _ (fs : List Form) (ls : List LeadValue) (f : ℕ) (head : Row) (rung : F
   rows_rung = ap (λ h. map (times h) (shape rung).rows) next ∙ ap (λ (s : Shape). map (times (next_head (shapes fs) (leads_in ls))) s.rows) (sym shape_rung)
 
   -- a lead of this form with the next head is the lead that the law adds
-  pub with : (after : List LeadValue) → after ≡ ls ++ record { form = f; head = head } ∷ [] → forms_known (length fs) ls ≡ true → Linked (shapes fs) (leads_in ls) → With fs ls after f head rung
+  pub with : (after : List LeadValue) → after ≡ ls ++ record { form = f; head = head } ∷ [] → FormsKnown (length fs) ls → Linked (shapes fs) (leads_in ls) → With fs ls after f head rung
   with after stands known linked =
       let leads : leads_in after ≡ added (shapes fs) (leads_in ls) f = ap leads_in stands ∙ map_push lead ls (record { form = f; head = head }) ∙ ap (λ (h : List ℕ). leads_in ls ++ record { form = f; head = h } ∷ []) next in
       record {
         leads = leads;
-        known = subst (λ x. forms_known (length fs) x ≡ true) (sym stands) (known_push (length fs) ls (record { form = f; head = head }) known l);
+        known = subst (FormsKnown (length fs)) (sym stands) (All-push (λ (x : LeadValue). x.form < length fs) ls (record { form = f; head = head }) known l);
         linked = subst (Linked (shapes fs)) (sym leads) (linked_push (shapes fs) (leads_in ls) (new_lead (shapes fs) (leads_in ls) f) linked refl);
         next = ap (λ h. times h (shape rung).turn) next ∙ ap (λ (s : Shape). times (next_head (shapes fs) (leads_in ls)) s.turn) (sym shape_rung)
             ∙ sym (next_push (shapes fs) (leads_in ls) (new_lead (shapes fs) (leads_in ls) f)) ∙ ap (next_head (shapes fs)) (sym leads);
@@ -180,9 +183,9 @@ module _ (fs : List Form) (ls : List LeadValue) (f : ℕ) (head : Row) (rung : F
 pub past_checks : (fs : List Form) (ls : List LeadValue) (f limit : ℕ) → f < length fs → length ls < limit → Past (shapes fs) limit (leads_in ls) f
 past_checks fs ls f limit l h = (let e = length-map fs shape in omega arith, let e = length-map ls lead in omega arith)
 
--- where the rows are not entered, the leads stay as they are
-pub moves_none : (forms : List Shape) (leads : List Lead) (f limit reach capacity p : ℕ) (es after : List Entry) (new : List (List ℕ)) (e : RingFault) → Past forms limit leads f → Enters reach capacity es p new (Err e) after → Moves forms limit leads f (Err e) leads
-moves_none forms leads f limit reach capacity p es after new NoForm past x = absurd x
-moves_none forms leads f limit reach capacity p es after new Limit past x = absurd x
-moves_none forms leads f limit reach capacity p es after new (Again i j) past x = (past, refl)
-moves_none forms leads f limit reach capacity p es after new (Register e) past x = (past, refl)
+-- what a ring answers after entering the rows of the form that was read, by the answer of the register
+pub law_of_ring : (n limit p f : ℕ) (fs : List Form) (ls : List LeadValue) (head : Row) (rung : Form) (s after : Shelf) → n ≤ 12 → FormsOn n fs → FormsKnown (length fs) ls → Linked (shapes fs) (leads_in ls)
+    → f < length fs → rung ≡ get_or fs f rung → head.bells ≡ next_head (shapes fs) (leads_in ls) → length ls < limit → p ≡ length (rows_of (shapes fs) (leads_in ls))
+    → (r : Result Unit RingFault) → Enters s p (map (times head.bells) (shape rung).rows) r after → Kept n limit (shapes fs) (leads_in ls) s → Rung n limit (shapes fs) (leads_in ls) f r after
+law_of_ring n limit p f fs ls head rung s after small staged known linked l is next few long r h kept =
+    rung_well n fs ls small staged known linked limit p f s after long (past_checks fs ls f limit l few) kept r (subst (λ new. Enters s p new r after) (rows_rung fs ls f head rung l is next) h)

@@ -1,14 +1,13 @@
 -- The rules that give an answer exclude each other: leads without a repeat give one answer to a call.
-use Rattle.std.proofs.Common.{◌≡◌, ℕ, ◌<◌, List, [], ◌∷◌, ◌++◌, length, get_or, take, sym, refl, ap, ◌∙◌, subst, ⊎_elim, arith}
-use Rattle.books.specs.Law.{Past, Turned, Reached, TrueTouch, Gives}
+use Rattle.std.proofs.Common.{◌≡◌, ℕ, ◌<◌, List, [], ◌∷◌, ◌++◌, length, get_or, take, Ok, Err, sym, refl, ap, ◌∙◌, subst, ⊎_elim, arith}
+use Rattle.books.specs.Law.{Past, Turned, Reached, TrueTouch, BookAnswer, Gives}
 use Rattle.books.specs.Law.Gives.{adds, turns_down, plays, stops, takes, takes_none, certifies, no_lead, not_round, other_length}
 use Rattle.books.specs.Leads.{Shape, Lead, rows_of, new_rows, rung, NoRepeat, FirstAgain}
 use Rattle.books.specs.Theorems.{Sound}
-use Rattle.books.specs.declared.call.Answer.{Answer}
-use Rattle.books.specs.declared.call.Answer.TheVariants.{Form, True, Refused}
 use Rattle.books.specs.declared.call.Call.{Call}
-use Rattle.books.specs.declared.call.Certificate.{Certificate}
 use Rattle.books.specs.declared.call.Call.TheVariants.{Ring, Play, Verdict}
+use Rattle.books.specs.declared.call.Certificate.{Certificate}
+use Rattle.books.specs.declared.call.Reply.TheVariants.{Form, True}
 use Rattle.books.specs.declared.fault.BookFault.TheVariants.{Ring as NotRung, Play as NotPlayed}
 use Rattle.books.specs.declared.fault.PlayFault.{PlayFault}
 use Rattle.books.specs.declared.fault.RingFault.{RingFault}
@@ -55,12 +54,12 @@ module _ (forms : List Shape) (limit : ℕ) (leads : List Lead) where
   -- neither of two stops is past the other, so that they are one, with one cause
   same_stop : Sound forms → Well forms leads → (fs : List ℕ) (m n : ℕ) (e d : RingFault) → Reached forms limit leads fs m → Reached forms limit leads fs n
       → Turned forms limit (rung forms leads (take m fs)) (get_or fs m 0) e → Turned forms limit (rung forms leads (take n fs)) (get_or fs n 0) d
-      → Refused (NotPlayed (record { lead = m; fault = e })) ≡ Refused (NotPlayed (record { lead = n; fault = d }))
+      → ◌≡◌ {A = BookAnswer} (Err (NotPlayed (record { lead = m; fault = e }))) (Err (NotPlayed (record { lead = n; fault = d })))
   same_stop sound w fs m n e d rm rn te td =
       let p : m ≡ n = ⊎_elim (λ e. e) (λ o. absurd (⊎_elim (λ l. stops_first fs m n e te rn l) (λ l. stops_first fs n m d td rm l) o)) (cases_order m n) in
       let moved : Turned forms limit (rung forms leads (take m fs)) (get_or fs m 0) d = subst (λ k. Turned forms limit (rung forms leads (take k fs)) (get_or fs k 0) d) (sym p) td in
       let q = same_turned forms limit (rung forms leads (take m fs)) (get_or fs m 0) (well_reached forms sound limit leads fs m rm w).no_repeat e d te moved in
-      λ i. Refused (NotPlayed (record { lead = p i; fault = q i }))
+      λ i. Err (NotPlayed (record { lead = p i; fault = q i }))
 
   -- a list with a last lead is not empty
   some_or_none : (front : List Lead) (l : Lead) → leads ≡ front ++ l ∷ [] → leads ≡ [] → ⊥
@@ -71,16 +70,16 @@ module _ (forms : List Shape) (limit : ℕ) (leads : List Lead) where
   not_none h e = let z : length leads ≡ 0 = ap length e in omega arith
 
   -- rule by rule: two rules for one call exclude each other, and one rule gives one answer
-  pub same_given : Sound forms → Well forms leads → (c : Call (List ℕ)) (a : Answer) → Gives forms limit leads c a → (b : Answer) → Gives forms limit leads c b → a ≡ b
+  pub same_given : Sound forms → Well forms leads → (c : Call (List ℕ)) (a : BookAnswer) → Gives forms limit leads c a → (b : BookAnswer) → Gives forms limit leads c b → a ≡ b
   same_given sound w c a (adds {f} h) b (adds g) = refl
   same_given sound w c a (adds {f} h) b (turns_down {e = e} t) = absurd (not_free forms limit leads f e t h)
   same_given sound w c a (turns_down {f} {e} t) b (adds h) = absurd (not_free forms limit leads f e t h)
-  same_given sound w c a (turns_down {f} {e} t) b (turns_down {e = d} s) = ap (λ x. Refused (NotRung x)) (same_turned forms limit leads f w.no_repeat e d t s)
+  same_given sound w c a (turns_down {f} {e} t) b (turns_down {e = d} s) = ap (λ x. Err (NotRung x)) (same_turned forms limit leads f w.no_repeat e d t s)
   same_given sound w c a (plays {fs} r) b (plays s) = refl
   same_given sound w c a (plays {fs} r) b (stops {m = m} {e = e} l s t) = absurd (stops_first fs m (length fs) e t r l)
   same_given sound w c a (stops {fs} {m} {e} l s t) b (plays r) = absurd (stops_first fs m (length fs) e t r l)
   same_given sound w c a (stops {fs} {m} {e} l r t) b (stops {m = n} {e = d} k s u) = same_stop sound w fs m n e d r s t u
-  same_given sound w c a (takes front l e) b (takes back k d) = ap (λ x. Form x.form) (same_from_push front back l k (sym e ∙ d)).1
+  same_given sound w c a (takes front l e) b (takes back k d) = ap (λ x. Ok (Form x.form)) (same_from_push front back l k (sym e ∙ d)).1
   same_given sound w c a (takes front l e) b (takes_none n) = absurd (some_or_none front l e n)
   same_given sound w c a (takes_none n) b (takes front l e) = absurd (some_or_none front l e n)
   same_given sound w c a (takes_none n) b (takes_none m) = refl
@@ -102,21 +101,21 @@ module _ (forms : List Shape) (limit : ℕ) (leads : List Lead) where
   same_given sound w c a (other_length h r o) b (other_length g s p) = refl
 
   -- an answer that certifies comes from a true touch
-  pub certified : (n : ℕ) (c : Certificate) (a : Answer) → Gives forms limit leads (Verdict n) a → a ≡ True c → TrueTouch forms leads n
+  pub certified : (n : ℕ) (c : Certificate) (a : BookAnswer) → Gives forms limit leads (Verdict n) a → a ≡ Ok (True c) → TrueTouch forms leads n
   certified n c a (certifies t) e = t
-  certified n c a (no_lead z) e = let z : ◌≡◌ {A = ℕ} 0 1 = cc in absurd (omega arith)
-  certified n c a (not_round h r) e = let z : ◌≡◌ {A = ℕ} 0 1 = cc in absurd (omega arith)
-  certified n c a (other_length h r o) e = let z : ◌≡◌ {A = ℕ} 0 1 = cc in absurd (omega arith)
+  certified n c a (no_lead z) e = absurd cc
+  certified n c a (not_round h r) e = absurd cc
+  certified n c a (other_length h r o) e = absurd cc
 
   -- a ring that is refused is turned down
-  pub turned : (f : ℕ) (e : RingFault) (a : Answer) → Gives forms limit leads (Ring f) a → a ≡ Refused (NotRung e) → Turned forms limit leads f e
-  turned f e a (adds h) p = let z : ◌≡◌ {A = ℕ} 0 1 = cc in absurd (omega arith)
+  pub turned : (f : ℕ) (e : RingFault) (a : BookAnswer) → Gives forms limit leads (Ring f) a → a ≡ Err (NotRung e) → Turned forms limit leads f e
+  turned f e a (adds h) p = absurd cc
   turned f e a (turns_down {e = d} t) p = let q : d ≡ e = cc in subst (Turned forms limit leads f) q t
 
   -- a play that is refused is turned down at the lead that is named
-  pub stopped : (fs : List ℕ) (m : ℕ) (e : RingFault) (a : Answer) → Gives forms limit leads (Play fs) a → a ≡ Refused (NotPlayed (record { lead = m; fault = e }))
+  pub stopped : (fs : List ℕ) (m : ℕ) (e : RingFault) (a : BookAnswer) → Gives forms limit leads (Play fs) a → a ≡ Err (NotPlayed (record { lead = m; fault = e }))
       → Turned forms limit (rung forms leads (take m fs)) (get_or fs m 0) e
-  stopped fs m e a (plays r) p = let z : ◌≡◌ {A = ℕ} 0 1 = cc in absurd (omega arith)
+  stopped fs m e a (plays r) p = absurd cc
   stopped fs m e a (stops {m = n} {e = d} l r t) p =
       let q : ◌≡◌ {A = PlayFault} (record { lead = n; fault = d }) (record { lead = m; fault = e }) = cc in
       subst (λ (x : PlayFault). Turned forms limit (rung forms leads (take x.lead fs)) (get_or fs x.lead 0) x.fault) q t

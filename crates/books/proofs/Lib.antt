@@ -1,4 +1,5 @@
 pub mod Answered
+pub mod Counting
 pub mod Entering
 pub mod Fitting
 pub mod Giving
@@ -8,7 +9,6 @@ pub mod Linking
 pub mod Opened
 pub mod Pigeonhole
 pub mod Placing
-pub mod Removing
 pub mod Repeating
 pub mod Rung
 pub mod Running

@@ -1,18 +1,19 @@
 -- Each lead begins with the head that comes next behind the leads before it, so that every row of the leads is a row on the stage.
-use Rattle.std.proofs.Common.{◌≡◌, ℕ, zero, suc, ◌+◌, ◌*◌, ◌<◌, ◌≤◌, true, ltb, List, [], ◌∷◌, ◌++◌, length, get_or, take, sym, refl, ap, ◌∙◌, subst, ⊎_elim, arith}
-use Rattle.books.specs.Forms.{leads_in, forms_known}
+use Rattle.std.proofs.Common.{◌≡◌, ℕ, zero, suc, ◌+◌, ◌*◌, ◌<◌, ◌≤◌, List, [], ◌∷◌, ◌++◌, length, get_or, take, sym, refl, ap, ◌∙◌, subst, ⊎_elim, All, arith}
+use Rattle.books.specs.Forms.{shape, shapes, lead, leads_in, FormsKnown}
 use Rattle.books.specs.Leads.{Shape, Lead, shape_at, next_head, rows_of_lead, rows_of, new_rows, Linked}
 use Rattle.books.specs.Theorems.{Sound}
 use Rattle.books.specs.declared.lead.Lead.{Lead as LeadValue}
-use Rattle.books.proofs.Repeating.{Rightly, rounds_row, rows_append}
+use Rattle.books.proofs.Repeating.{Rightly, rounds_row}
 use Rattle.books.proofs.Sounding.{ShapeOn}
+use Rattle.forms.specs.declared.form.Form.{Form}
 use Rattle.rows.proofs.Group.{times_row, times_on, rounds_on}
 use Rattle.rows.proofs.Members.{member}
 use Rattle.rows.specs.Rows.{times, RowOf, On}
-use Rattle.std.proofs.ByRecursion.{All-append, All-map, All-get_or, All-from_get_or}
 use Rattle.std.proofs.lemmas.List.{append-nil, get_or_append_left, get_or_push, length-append, length-map, length_push, take-append-le, take_all, take_at, take_more}
-use Rattle.std.proofs.lemmas.Bool.{and_from, and_parts, cases_lt, lt-ltb, ltb-true}
-use Rattle.std.specs.List.{AllByRecursion as All}
+use Rattle.std.proofs.lemmas.Bool.{cases_lt}
+use Rattle.std.proofs.lemmas.Grind.{flat_map-append}
+use Rattle.std.proofs.lemmas.List.Elements.{All-nil, All-head, All-tail, All-append, All-map, All-get_or, All-from_get_or}
 
 -- what is read past the last lead
 abbrev none : Lead
@@ -26,7 +27,7 @@ next_push forms (k ∷ (m ∷ ls)) l = next_push forms (m ∷ ls) l
 
 -- the rows of the last lead come last
 pub rows_push : (forms : List Shape) (ls : List Lead) (l : Lead) → rows_of forms (ls ++ l ∷ []) ≡ rows_of forms ls ++ rows_of_lead forms l
-rows_push forms ls l = rows_append forms ls (l ∷ []) ∙ ap (λ r. rows_of forms ls ++ r) (append-nil (rows_of_lead forms l))
+rows_push forms ls l = flat_map-append (rows_of_lead forms) ls (l ∷ []) ∙ ap (λ r. rows_of forms ls ++ r) (append-nil (rows_of_lead forms l))
 
 -- a new lead begins with the next head
 pub linked_push : (forms : List Shape) (ls : List Lead) (l : Lead) → Linked forms ls → l.head ≡ next_head forms ls → Linked forms (ls ++ l ∷ [])
@@ -49,30 +50,8 @@ linked_last forms ls l h =
     ap (λ (x : Lead). x.head) (sym (get_or_push ls l none (length ls) refl)) ∙ h (length ls) (omega (arith, length_push ls l)) ∙ ap (next_head forms) (take_at ls (l ∷ []) (length ls) refl)
 
 -- leads of known forms have forms of the list, and rows for heads by their type
-pub known_rightly : (forms : List Shape) (n : ℕ) (ls : List LeadValue) → n ≡ length forms → forms_known n ls ≡ true → All (Rightly forms) (leads_in ls)
-known_rightly forms n [] e h = tt
-known_rightly forms n (l ∷ ls) e h =
-    let parts = and_parts (ltb l.form n) (forms_known n ls) h in
-    ((let b = ltb-true l.form n parts.0 in omega arith, l.head.once), known_rightly forms n ls e parts.1)
-
--- one known form more
-pub known_push : (n : ℕ) (ls : List LeadValue) (l : LeadValue) → forms_known n ls ≡ true → l.form < n → forms_known n (ls ++ l ∷ []) ≡ true
-known_push n [] l h b = and_from (ltb l.form n) true (lt-ltb l.form n b) refl
-known_push n (k ∷ ls) l h b =
-    let parts = and_parts (ltb k.form n) (forms_known n ls) h in
-    and_from (ltb k.form n) (forms_known n (ls ++ l ∷ [])) parts.0 (known_push n ls l parts.1 b)
-
--- the test is made lead by lead, so that it holds of a front
-pub known_front : (n : ℕ) (ls : List LeadValue) (l : LeadValue) → forms_known n (ls ++ l ∷ []) ≡ true → forms_known n ls ≡ true
-known_front n [] l h = refl
-known_front n (k ∷ ls) l h =
-    let parts = and_parts (ltb k.form n) (forms_known n (ls ++ l ∷ [])) h in
-    and_from (ltb k.form n) (forms_known n ls) parts.0 (known_front n ls l parts.1)
-
--- and of the last lead
-pub known_last : (n : ℕ) (ls : List LeadValue) (l : LeadValue) → forms_known n (ls ++ l ∷ []) ≡ true → l.form < n
-known_last n [] l h = ltb-true l.form n (and_parts (ltb l.form n) true h).0
-known_last n (k ∷ ls) l h = known_last n ls l (and_parts (ltb k.form n) (forms_known n (ls ++ l ∷ [])) h).1
+pub known_rightly : (fs : List Form) (ls : List LeadValue) → FormsKnown (length fs) ls → All (Rightly (shapes fs)) (leads_in ls)
+known_rightly fs ls h = All-map (Rightly (shapes fs)) lead ls (λ k d l. (let known = h k d l in omega (arith, length-map fs shape), (get_or ls k d).head.once))
 
 -- a row on n bells
 abbrev pub Staged : ℕ → List ℕ → Type 0
@@ -110,9 +89,10 @@ module _ (n : ℕ) (forms : List Shape) (sound : Sound forms) (on : (k : ℕ) �
 
   -- each lead from its head on
   rows_staged_from : (ls : List Lead) → All (Rightly forms) ls → ((k : ℕ) → k < length ls → On n (get_or ls k none).head) → All (Staged n) (rows_of forms ls)
-  rows_staged_from [] r h = tt
+  rows_staged_from [] r h = All-nil (Staged n)
   rows_staged_from (l ∷ ls) r h =
-      All-append (Staged n) (rows_of_lead forms l) (rows_of forms ls) (lead_staged l.head l.form (r.0.1, h 0 (omega arith)) r.0.0) (rows_staged_from ls r.1 (λ k m. h (suc k) (omega arith)))
+      let first = All-head (Rightly forms) l ls r in
+      All-append (Staged n) (rows_of_lead forms l) (rows_of forms ls) (lead_staged l.head l.form (first.1, h 0 (omega arith)) first.0) (rows_staged_from ls (All-tail (Rightly forms) l ls r) (λ k m. h (suc k) (omega arith)))
 
   -- all rows of the leads are rows on the stage
   pub rows_staged : (ls : List Lead) → All (Rightly forms) ls → Linked forms ls → All (Staged n) (rows_of forms ls)
@@ -122,7 +102,7 @@ module _ (n : ℕ) (forms : List Shape) (sound : Sound forms) (on : (k : ℕ) �
   pub rows_few : (ls : List Lead) → All (Rightly forms) ls → length (rows_of forms ls) ≤ 64 * length ls
   rows_few [] r = omega arith
   rows_few (l ∷ ls) r =
-      omega (arith, length-append (rows_of_lead forms l) (rows_of forms ls), length-map (shape_at forms l.form).rows (times l.head), short l.form r.0.0, rows_few ls r.1)
+      omega (arith, length-append (rows_of_lead forms l) (rows_of forms ls), length-map (shape_at forms l.form).rows (times l.head), short l.form (All-head (Rightly forms) l ls r).0, rows_few ls (All-tail (Rightly forms) l ls r))
 
   -- and a new lead at most 64
   pub new_few : (ls : List Lead) (f : ℕ) → f < length forms → length (new_rows forms ls f) ≤ 64

@@ -1,5 +1,5 @@
 -- No row stands twice among the rows of the standing leads, and every head is a row.
-use Rattle.std.proofs.Common.{◌≡◌, ℕ, zero, suc, ◌-◌, ◌<◌, List, [], ◌∷◌, ◌++◌, length, get_or, take, drop, sym, refl, ap, ◌∙◌, subst, ⊎_elim, arith}
+use Rattle.std.proofs.Common.{◌≡◌, ℕ, zero, suc, ◌-◌, ◌<◌, List, [], ◌∷◌, ◌++◌, length, get_or, take, drop, sym, refl, ap, ◌∙◌, subst, ⊎_elim, All, arith}
 use Rattle.books.specs.Law.{free, playing, after, standing_from, standing, Free, Reached}
 use Rattle.books.specs.Leads.{Shape, Lead, shape_at, next_head, rows_of_lead, rows_of, new_lead, new_rows, added, rung, Shares, NoRepeat}
 use Rattle.books.specs.Theorems.{Sound}
@@ -10,10 +10,10 @@ use Rattle.books.proofs.Testing.{decides_free}
 use Rattle.rows.proofs.Group.{times_row, associative, rounds_times, inverse_times}
 use Rattle.rows.proofs.Members.{member}
 use Rattle.rows.specs.Rows.{rounds, times, inverse, is_row, RowOf}
-use Rattle.std.proofs.ByRecursion.{All-push, All-take}
-use Rattle.std.proofs.lemmas.List.{append_assoc, append-nil, take-append-drop, length-append, length-map, get_or_append_left, get_or-append_right, get_or-map}
+use Rattle.std.proofs.lemmas.List.Elements.{All-nil, All-head, All-tail, All-push, All-take}
+use Rattle.std.proofs.lemmas.Grind.{flat_map-append}
+use Rattle.std.proofs.lemmas.List.{append-nil, take-append-drop, length-append, length-map, get_or_append_left, get_or-append_right, get_or-map}
 use Rattle.std.proofs.lemmas.Bool.{cases_lt, cases_Bool}
-use Rattle.std.specs.List.{AllByRecursion as All}
 
 -- a head is taken from a product by its inverse
 undo : (h x : List ℕ) → RowOf 12 h → RowOf 12 x → times (inverse 12 h) (times h x) ≡ x
@@ -44,14 +44,9 @@ behind xs ys hx hy none i j l m e =
     (cases_lt i (length xs)))
     (cases_lt j (length xs))
 
--- rows of leads, one list behind the other
-pub rows_append : (forms : List Shape) (a b : List Lead) → rows_of forms (a ++ b) ≡ rows_of forms a ++ rows_of forms b
-rows_append forms [] b = refl
-rows_append forms (l ∷ a) b = ap (λ r. rows_of_lead forms l ++ r) (rows_append forms a b) ∙ sym (append_assoc (rows_of_lead forms l) (rows_of forms a) (rows_of forms b))
-
 -- the rows of a new lead come behind the others
 pub rows_added : (forms : List Shape) (leads : List Lead) (f : ℕ) → rows_of forms (added forms leads f) ≡ rows_of forms leads ++ new_rows forms leads f
-rows_added forms leads f = rows_append forms leads (new_lead forms leads f ∷ []) ∙ ap (λ r. rows_of forms leads ++ r) (append-nil (new_rows forms leads f))
+rows_added forms leads f = flat_map-append (rows_of_lead forms) leads (new_lead forms leads f ∷ []) ∙ ap (λ r. rows_of forms leads ++ r) (append-nil (new_rows forms leads f))
 
 -- a lead of a form in the list, with a row for its head
 abbrev pub Rightly : List Shape → Lead → Type 0
@@ -66,8 +61,8 @@ module _ (forms : List Shape) (sound : Sound forms) where
   -- a row × a turn is a row
   next_row : (leads : List Lead) → All (Rightly forms) leads → RowOf 12 (next_head forms leads)
   next_row [] h = rounds_row
-  next_row (l ∷ []) h = times_row 12 l.head (shape_at forms l.form).turn h.0.1 (sound l.form h.0.0).turn_is
-  next_row (l ∷ (m ∷ ls)) h = next_row (m ∷ ls) h.1
+  next_row (l ∷ []) h = let r = All-head (Rightly forms) l [] h in times_row 12 l.head (shape_at forms l.form).turn r.1 (sound l.form r.0).turn_is
+  next_row (l ∷ (m ∷ ls)) h = next_row (m ∷ ls) (All-tail (Rightly forms) l (m ∷ ls) h)
 
   -- a lead repeats no row, since its form repeats none
   pub lead_once : (h : List ℕ) (f : ℕ) → RowOf 12 h → f < length forms → NoRepeat (rows_of_lead forms (record { form = f; head = h }))
@@ -93,7 +88,7 @@ module _ (forms : List Shape) (sound : Sound forms) where
   well_take n leads w = record {
     heads = All-take (Rightly forms) n leads w.heads;
     no_repeat = front (rows_of forms (take n leads)) (rows_of forms (drop n leads))
-        (subst NoRepeat (ap (rows_of forms) (sym (take-append-drop n leads)) ∙ rows_append forms (take n leads) (drop n leads)) w.no_repeat);
+        (subst NoRepeat (ap (rows_of forms) (sym (take-append-drop n leads)) ∙ flat_map-append (rows_of_lead forms) (take n leads) (drop n leads)) w.no_repeat);
   }
 
   -- a play adds free leads, or goes back to where it began
@@ -120,7 +115,7 @@ module _ (forms : List Shape) (sound : Sound forms) where
 
   -- at the start no lead stands, so that there is nothing to repeat
   pub well_standing : (limit : ℕ) (calls : List (Call (List ℕ))) → Well forms (standing forms limit calls)
-  well_standing limit calls = well_from limit [] calls (record { heads = tt; no_repeat = λ i j l m e. omega arith })
+  well_standing limit calls = well_from limit [] calls (record { heads = All-nil (Rightly forms); no_repeat = λ i j l m e. omega arith })
 
   -- and so does each lead of a play that is added
   pub well_reached : (limit : ℕ) (leads : List Lead) (fs : List ℕ) (m : ℕ) → Reached forms limit leads fs m → Well forms leads → Well forms (rung forms leads (take m fs))

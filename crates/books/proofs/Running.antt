@@ -2,10 +2,9 @@
 use Rattle.std.proofs.Common.{◌≡◌, ℕ, ◌+◌, ◌<◌, List, [], ◌∷◌, ◌++◌, map, length, get_or, take, drop, set, sym, refl, ap, ◌∙◌, subst, arith}
 use lib.Seq.{map-set_same}
 use Rattle.books.proofs.Lawful.{law_of_books}
-use Rattle.books.specs.Law.{plain, after, standing, Gives, At, Lawful}
+use Rattle.books.specs.Law.{plain, after, standing, BookAnswer, Gives, At, Lawful}
 use Rattle.books.specs.Leads.{Shape, Lead}
 use Rattle.books.specs.Theorems.{Sound}
-use Rattle.books.specs.declared.call.Answer.{Answer}
 use Rattle.books.specs.declared.call.Call.{Call}
 use Rattle.std.proofs.lemmas.List.{take_more, take_more_set, drop-drop, drop-set-lt, get_or-map}
 use Rattle.std.proofs.lemmas.Bool.Decides.{nat_tests}
@@ -29,7 +28,7 @@ lawful_none forms limit = record { each = refl; exactly = λ k c a at_c at_a. ab
     at_none : (k : ℕ) (c : Call (List ℕ)) → At [] k c → ⊥
     at_none k c e = grind (arith, nat_tests)
 
-module _ (forms : List Shape) (limit : ℕ) (asked : List (Call (List ℕ))) (answers : List Answer) (i : ℕ) (c : Call (List ℕ)) (a : Answer) where
+module _ (forms : List Shape) (limit : ℕ) (asked : List (Call (List ℕ))) (answers : List BookAnswer) (i : ℕ) (c : Call (List ℕ)) (a : BookAnswer) where
   -- the leads go on, and the law extends by what the leads give
   pub one_more : i < length asked → i < length answers → c ≡ get_or asked i c → Sound forms
       → (leads now : List Lead) → leads ≡ standing forms limit (take i asked) → Lawful forms limit (take i asked) (take i answers)

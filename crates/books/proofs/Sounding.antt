@@ -1,24 +1,21 @@
 -- The forms of a list have rows throughout, none of them twice in a lead, and stay on the stage.
-use Rattle.std.proofs.Common.{◌≡◌, ℕ, zero, suc, ◌+◌, ◌-◌, ◌<◌, ◌≤◌, Bool, true, ◌||◌, leb, List, [], ◌∷◌, length, get_or, sym, ◌∙◌, subst, ⊎_elim, arith}
+use Rattle.std.proofs.Common.{◌≡◌, ℕ, zero, suc, ◌<◌, ◌≤◌, Bool, List, [], ◌∷◌, length, get_or, sym, ◌∙◌, subst, arith}
 use Rattle.books.specs.Forms.{shape_of, shape, shapes}
 use Rattle.books.specs.Leads.{Shape, shape_at}
 use Rattle.books.specs.Theorems.{SoundShape, Sound}
 use Rattle.books.proofs.Repeating.{rounds_row}
 use Rattle.forms.proofs.Leading.{rows_long}
-use Rattle.forms.specs.Leads.{rows_from, lead_rows, change_on, changes_on}
-use Rattle.forms.specs.Staged.{forms_on}
+use Rattle.forms.specs.Leads.{rows_from, lead_rows, ChangesOn}
+use Rattle.forms.specs.Staged.{FormsOn}
 use Rattle.forms.specs.declared.form.Form.{Form}
 use Rattle.notation.proofs.Drafting.{listed_long}
 use Rattle.notation.proofs.Effects.{rung_row, rung_on}
 use Rattle.notation.specs.Changes.{ChangeOn, rung}
 use Rattle.notation.specs.Drafts.{listed}
 use Rattle.rows.proofs.Group.{rounds_on}
-use Rattle.rows.proofs.Members.{each_at}
 use Rattle.rows.specs.Rows.{rounds, RowOf, On}
-use Rattle.std.proofs.lemmas.List.FromFn.{length-range_with_len, get_or-range_with_len}
+use Rattle.std.proofs.lemmas.List.Elements.{All-head, All-tail}
 use Rattle.std.proofs.lemmas.List.{get_or-take, length-take-le}
-use Rattle.std.proofs.lemmas.Bool.{and_parts, or_cases, leb-true}
-use Rattle.std.specs.List.{range_with_len}
 
 -- a change rung on a row gives a row
 from_row : (cs : List (List Bool)) (r : List ℕ) → RowOf 12 r → (j : ℕ) → j ≤ length cs → RowOf 12 (get_or (rows_from cs r) j [])
@@ -28,23 +25,13 @@ from_row [] r h (suc j) l = absurd (omega arith)
 from_row (c ∷ cs) r h zero l = h
 from_row (c ∷ cs) r h (suc j) l = from_row cs (rung c r) (rung_row 12 c r h) j (omega arith)
 
--- a change that passes the test makes the places above the stage
-change_from : (n : ℕ) (c : List Bool) → change_on n c ≡ true → ChangeOn n c
-change_from n c h p lo hi =
-    let e : 1 + (p - 1) ≡ p = omega arith in
-    let at : get_or (range_with_len 1 12) (p - 1) 0 ≡ p = get_or-range_with_len 1 12 (p - 1) 0 (omega arith) ∙ e in
-    let t = each_at (λ p. leb p n || get_or c (p - 1) true) (range_with_len 1 12) h (p - 1) (omega (arith, length-range_with_len 1 12)) in
-    ⊎_elim (λ b. absurd (let z = leb-true p n b in omega arith)) (λ b. b) (or_cases (leb p n) (get_or c (p - 1) true) (rw at at t))
-
 -- and keeps a row on the stage
-from_on : (n : ℕ) (cs : List (List Bool)) (r : List ℕ) → changes_on n cs ≡ true → On n r → (j : ℕ) → j ≤ length cs → On n (get_or (rows_from cs r) j [])
+from_on : (n : ℕ) (cs : List (List Bool)) (r : List ℕ) → ChangesOn n cs → On n r → (j : ℕ) → j ≤ length cs → On n (get_or (rows_from cs r) j [])
 unfolding rows_from
 from_on n [] r c h zero l = h
 from_on n [] r c h (suc j) l = absurd (omega arith)
 from_on n (d ∷ cs) r c h zero l = h
-from_on n (d ∷ cs) r c h (suc j) l =
-    let parts = and_parts (change_on n d) (changes_on n cs) c in
-    from_on n cs (rung d r) parts.1 (rung_on n d r (change_from n d parts.0) h) j (omega arith)
+from_on n (d ∷ cs) r c h (suc j) l = from_on n cs (rung d r) (All-tail (ChangeOn n) d cs c) (rung_on n d r (All-head (ChangeOn n) d cs c) h) j (omega arith)
 
 -- one row for each change
 shape_size : (cs : List (List Bool)) → length (shape_of cs).rows ≡ length cs
@@ -71,7 +58,7 @@ pub record ShapeOn (n : ℕ) (s : Shape) : Type 0 where
   pub turn_on : On n s.turn
 
 -- covers stay through the whole lead
-shape_stays : (n : ℕ) (f : Form) → changes_on n (listed f.changes) ≡ true → ShapeOn n (shape f)
+shape_stays : (n : ℕ) (f : Form) → ChangesOn n (listed f.changes) → ShapeOn n (shape f)
 shape_stays n f h =
     let cs : List (List Bool) = listed f.changes in
     let size = shape_size cs in
@@ -95,7 +82,7 @@ pub shapes_short : (fs : List Form) (k : ℕ) → k < length (shapes fs) → len
 shapes_short fs = shapes_each (λ s. length s.rows ≤ 64) (λ f. let few = f.changes.few in omega (arith, shape_long f)) fs
 
 -- the forms of a staged list stay on its stage
-pub shapes_on : (n : ℕ) (fs : List Form) → forms_on n fs ≡ true → (k : ℕ) → k < length (shapes fs) → ShapeOn n (shape_at (shapes fs) k)
+pub shapes_on : (n : ℕ) (fs : List Form) → FormsOn n fs → (k : ℕ) → k < length (shapes fs) → ShapeOn n (shape_at (shapes fs) k)
 shapes_on n [] h k l = absurd (omega arith)
-shapes_on n (f ∷ fs) h zero l = shape_stays n f (and_parts (changes_on n (listed f.changes)) (forms_on n fs) h).0
-shapes_on n (f ∷ fs) h (suc k) l = shapes_on n fs (and_parts (changes_on n (listed f.changes)) (forms_on n fs) h).1 k (omega arith)
+shapes_on n (f ∷ fs) h zero l = shape_stays n f (h 0 f (omega arith))
+shapes_on n (f ∷ fs) h (suc k) l = shapes_on n fs (λ i d m. h (suc i) d (omega arith)) k (omega arith)

@@ -1,70 +1,42 @@
 -- The tests for rows tell what they test, and a lead is free exactly when its test says so.
-use Rattle.std.proofs.Common.{◌≡◌, ℕ, zero, suc, ◌<◌, true, false, not, ◌&&◌, eqb, ltb, ◌⊎◌, List, [], ◌∷◌, length, get_or, Decides, refl, subst, inl, inr, ⊎_elim, arith}
-use Rattle.books.specs.Law.{same, among, apart, free, Free, Turned}
+use Rattle.std.proofs.Common.{◌≡◌, ℕ, zero, suc, ◌<◌, true, false, not, ◌&&◌, ltb, ◌⊎◌, List, [], ◌∷◌, length, get_or, Decides, refl, sym, ◌∙◌, inl, inr, ⊎_elim, arith}
+use Rattle.books.specs.Law.{among, apart, free, Free, Turned}
 use Rattle.books.specs.Leads.{Shape, Lead, rows_of, new_rows, Among, Shares, FirstAgain}
 use Rattle.books.specs.declared.fault.RingFault.{RingFault}
 use Rattle.books.specs.declared.fault.RingFault.TheVariants.{Form as NoForm, Limit, Again, Register}
-use Rattle.std.proofs.lemmas.Bool.{and_parts, and_from, or_cases, or_left, or_right, eqb-true, eq-eqb, cases_Bool, not-true, not_from_false, both_ways}
+use Rattle.std.proofs.lemmas.Bool.{and_parts, and_from, cases_Bool, not-true, not_from_false, both_ways}
 use Rattle.std.proofs.lemmas.Bool.Decides.{Decides-and, Decides-ltb}
+use Rattle.std.proofs.lemmas.List.{get_or_read}
+use Rattle.std.proofs.lemmas.List.Folds.{Any-from_list_any, list_any_at}
+use Rattle.std.proofs.lemmas.Slice.Eq.{bytes_eq-Decides}
+use Rattle.std.specs.Str.{bytes_eq}
 
--- lists that pass the test are equal, number by number
-pub same_true : (xs ys : List ℕ) → same xs ys ≡ true → xs ≡ ys
-same_true [] [] h = refl
-same_true [] (y ∷ ys) h = absurd (both_ways false refl h)
-same_true (x ∷ xs) [] h = absurd (both_ways false refl h)
-same_true (x ∷ xs) (y ∷ ys) h =
-    let parts = and_parts (eqb x y) (same xs ys) h in
-    let front = eqb-true x y parts.0 in
-    let back = same_true xs ys parts.1 in
-    cc
-
--- each number equals itself
-same_self : (xs : List ℕ) → same xs xs ≡ true
-same_self [] = refl
-same_self (x ∷ xs) = and_from (eqb x x) (same xs xs) (eq-eqb x x refl) (same_self xs)
-
--- equal lists pass the test
-pub same_from : (xs ys : List ℕ) → xs ≡ ys → same xs ys ≡ true
-same_from xs ys e = subst (λ zs. same xs zs ≡ true) e (same_self xs)
-
--- a row that passes the test stands at some place
+-- the test for a row tells whether it stands at some place
 pub among_true : (book : List (List ℕ)) (x : List ℕ) → among book x ≡ true → Among book x
-among_true [] x h = absurd (both_ways false refl h)
-among_true (y ∷ ys) x h = ⊎_elim (λ e. (0, (omega arith, same_true y x e))) (λ e. let there = among_true ys x e in (suc there.0, (omega arith, there.1.1))) (or_cases (same y x) (among ys x) h)
+among_true book x h = let t = Any-from_list_any (λ y. bytes_eq y x) book h in (t.0, (t.2, sym (get_or_read book t.0 t.1 t.2 (sym t.3) []) ∙ (bytes_eq-Decides t.1 x).0 t.4))
 
--- a row that stands at some place passes the test
-pub among_from : (book : List (List ℕ)) (x : List ℕ) (j : ℕ) → j < length book → get_or book j [] ≡ x → among book x ≡ true
-among_from [] x j l e = absurd (omega arith)
-among_from (y ∷ ys) x zero l e = or_left (same y x) (among ys x) (same_from y x e)
-among_from (y ∷ ys) x (suc j) l e = or_right (same y x) (among ys x) (among_from ys x j (omega arith) e)
+pub among_from : (book : List (List ℕ)) (x : List ℕ) → Among book x → among book x ≡ true
+among_from book x a = list_any_at (λ y. bytes_eq y x) book a.0 [] a.1.0 ((bytes_eq-Decides (get_or book a.0 []) x).1 a.1.1)
 
 -- what fails the test stands nowhere
 pub not_among : (book : List (List ℕ)) (x : List ℕ) → among book x ≡ false → Among book x → ⊥
-not_among book x h a = both_ways (among book x) h (among_from book x a.0 a.1.0 a.1.1)
+not_among book x h a = both_ways (among book x) h (among_from book x a)
 
 -- a shared row is the first of the new rows or one of the others
 nowhere : (book : List (List ℕ)) (x : List ℕ) (xs : List (List ℕ)) → (Among book x → ⊥) → (Shares book xs → ⊥) → (k : ℕ) → k < length (x ∷ xs) → Among book (get_or (x ∷ xs) k []) → ⊥
 nowhere book x xs h none zero l a = h a
 nowhere book x xs h none (suc k) l a = none (k, omega arith, a)
 
--- new rows that are apart from the book share none with it
-pub apart_true : (book new : List (List ℕ)) → apart book new ≡ true → Shares book new → ⊥
-apart_true book [] h s = absurd (omega (arith, s.1))
-apart_true book (x ∷ xs) h s =
-    let parts = and_parts (not (among book x)) (apart book xs) h in
-    nowhere book x xs (not_among book x (not-true (among book x) parts.0)) (apart_true book xs parts.1) s.0 s.1 s.2
-
--- new rows that share none with the book are apart from it
-pub apart_from : (book new : List (List ℕ)) → (Shares book new → ⊥) → apart book new ≡ true
-apart_from book [] h = refl
-apart_from book (x ∷ xs) h =
-    and_from (not (among book x)) (apart book xs)
-    (not_from_false (among book x) (⊎_elim (λ e. absurd (h (0, omega arith, among_true book x e))) (λ e. e) (cases_Bool (among book x))))
-    (apart_from book xs (λ s. h (suc s.0, omega (arith, s.1), s.2)))
-
--- so the test tells whether a row is shared
+-- the test of new rows tells whether one of them is in the book
 pub decides_apart : (book new : List (List ℕ)) → Decides (apart book new) (Shares book new → ⊥)
-decides_apart book new = (apart_true book new, apart_from book new)
+decides_apart book [] = (λ h s. absurd (omega (arith, s.1)), λ h. refl)
+decides_apart book (x ∷ xs) =
+    let rest = decides_apart book xs in (
+      λ h s. let parts = and_parts (not (among book x)) (apart book xs) h in nowhere book x xs (not_among book x (not-true (among book x) parts.0)) (rest.0 parts.1) s.0 s.1 s.2,
+      λ h. and_from (not (among book x)) (apart book xs)
+          (not_from_false (among book x) (⊎_elim (λ e. absurd (h (0, omega arith, among_true book x e))) (λ e. e) (cases_Bool (among book x))))
+          (rest.1 (λ s. h (suc s.0, omega (arith, s.1), s.2))),
+    )
 
 -- no new row is in the book, or a first one is
 abbrev pub Told : List (List ℕ) → List (List ℕ) → Type 0

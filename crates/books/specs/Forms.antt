@@ -1,5 +1,5 @@
 -- Forms and leads as the law sees them.
-use Rattle.std.specs.Prelude.{ℕ, Bool, true, ◌&&◌, List, [], ◌∷◌, map, length, take, nat_lt}
+use Rattle.std.specs.Prelude.{ℕ, ◌<◌, Bool, List, map, length, take, All}
 use Rattle.books.specs.Leads.{Shape, Lead}
 use Rattle.books.specs.declared.lead.Lead.{Lead as LeadValue}
 use Rattle.forms.specs.Leads.{lead_rows, turn}
@@ -23,6 +23,5 @@ abbrev pub leads_in : List LeadValue → List Lead
 leads_in ls = map lead ls
 
 -- every lead has a form of the list
-abbrev pub forms_known : ℕ → List LeadValue → Bool
-forms_known n [] = true
-forms_known n (l ∷ ls) = nat_lt l.form n && forms_known n ls
+abbrev pub FormsKnown : ℕ → List LeadValue → Type 0
+FormsKnown n ls = All (λ (l : LeadValue). l.form < n) ls

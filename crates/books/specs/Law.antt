@@ -1,17 +1,19 @@
 -- Which leads stand after a list of calls, and the law of the answers. Leads, heads, rows and places are all that it speaks of.
-use Rattle.std.specs.Prelude.{◌≡◌, ℕ, ◌+◌, ◌-◌, ◌<◌, ◌≤◌, Bool, true, false, not, ◌&&◌, ◌||◌, ◌↔◌, List, [], ◌∷◌, ◌++◌, length, take, Some, ◌==◌, ◌≢◌, nat_lt, slice_index}
+use Rattle.std.specs.Prelude.{◌≡◌, ℕ, ◌+◌, ◌-◌, ◌<◌, ◌≤◌, Bool, true, false, not, ◌&&◌, ◌↔◌, List, [], ◌∷◌, ◌++◌, length, take, Some, Ok, Err, Result, ◌≢◌, nat_lt, slice_index}
 use Rattle.books.specs.Leads.{Shape, Lead, next_head, rows_of, new_rows, added, rung, Shares, NoRepeat, FirstAgain}
-use Rattle.books.specs.declared.call.Answer.{Answer}
-use Rattle.books.specs.declared.call.Answer.TheVariants.{Stands, Form, True, Refused}
 use Rattle.books.specs.declared.call.Call.{Call}
 use Rattle.books.specs.declared.call.Call.TheVariants.{Ring, Play, TakeBack, Verdict}
+use Rattle.books.specs.declared.call.Reply.{Reply}
+use Rattle.books.specs.declared.call.Reply.TheVariants.{Stands, Form, True}
+use Rattle.books.specs.declared.fault.BookFault.{BookFault}
 use Rattle.books.specs.declared.fault.BookFault.TheVariants.{Ring as NotRung, Play as NotPlayed, TakeBack as NotTaken, Verdict as NotCertified}
 use Rattle.books.specs.declared.fault.RingFault.{RingFault}
 use Rattle.books.specs.declared.fault.RingFault.TheVariants.{Form as NoForm, Limit, Again, Register}
 use Rattle.books.specs.declared.fault.TakeBackFault.TheVariants.{Leads as NoneToTake}
 use Rattle.books.specs.declared.fault.VerdictFault.TheVariants.{Leads as NoLead, Head, Length}
 use Rattle.rows.specs.Rows.{rounds}
-use Rattle.std.specs.List.{slice_get}
+use Rattle.std.specs.List.{list_all, list_any, slice_get}
+use Rattle.std.specs.Str.{bytes_eq}
 
 -- a call with the list that a source means in the place of the source
 abbrev pub plain : {S : Type 0} → (S → List ℕ) → Call S → Call (List ℕ)
@@ -21,19 +23,11 @@ plain list TakeBack = TakeBack
 plain list (Verdict n) = Verdict n
 
 -- tests for rows
-abbrev pub same : List ℕ → List ℕ → Bool
-same [] [] = true
-same [] (y ∷ ys) = false
-same (x ∷ xs) [] = false
-same (x ∷ xs) (y ∷ ys) = x == y && same xs ys
-
 abbrev pub among : List (List ℕ) → List ℕ → Bool
-among [] x = false
-among (y ∷ ys) x = same y x || among ys x
+among rows x = list_any (λ y. bytes_eq y x) rows
 
 abbrev pub apart : List (List ℕ) → List (List ℕ) → Bool
-apart book [] = true
-apart book (x ∷ xs) = not (among book x) && apart book xs
+apart book new = list_all (λ x. not (among book x)) new
 
 -- the form is in the list, the limit is not reached, and no row of the lead is in the book
 unfoldable pub free : List Shape → ℕ → List Lead → ℕ → Bool
@@ -87,18 +81,22 @@ pub record TrueTouch (forms : List Shape) (leads : List Lead) (claimed : ℕ) : 
   pub no_repeat : NoRepeat (rows_of forms leads)
   pub as_claimed : length (rows_of forms leads) ≡ claimed
 
+-- what a call is answered; antt has no name for an alias
+abbrev pub BookAnswer : Type 0
+BookAnswer = Result Reply BookFault
+
 -- the leads that stand give this answer to a call
-pub data Gives (forms : List Shape) (limit : ℕ) (leads : List Lead) : Call (List ℕ) → Answer → Type 0 where
-  adds : {f : ℕ} → Free forms limit leads f → Gives forms limit leads (Ring f) (Stands (length leads + 1))
-  turns_down : {f : ℕ} {e : RingFault} → Turned forms limit leads f e → Gives forms limit leads (Ring f) (Refused (NotRung e))
-  plays : {fs : List ℕ} → Reached forms limit leads fs (length fs) → Gives forms limit leads (Play fs) (Stands (length leads + length fs))
-  stops : {fs : List ℕ} {m : ℕ} {e : RingFault} → m < length fs → Reached forms limit leads fs m → Turned forms limit (rung forms leads (take m fs)) (slice_index fs m) e → Gives forms limit leads (Play fs) (Refused (NotPlayed (record { lead = m; fault = e })))
-  takes : (front : List Lead) (l : Lead) → leads ≡ front ++ l ∷ [] → Gives forms limit leads TakeBack (Form l.form)
-  takes_none : leads ≡ [] → Gives forms limit leads TakeBack (Refused (NotTaken NoneToTake))
-  certifies : {n : ℕ} → TrueTouch forms leads n → Gives forms limit leads (Verdict n) (True (record { rows = length (rows_of forms leads); leads = length leads }))
-  no_lead : {n : ℕ} → leads ≡ [] → Gives forms limit leads (Verdict n) (Refused (NotCertified NoLead))
-  not_round : {n : ℕ} → 0 < length leads → (next_head forms leads ≢ rounds 12) → Gives forms limit leads (Verdict n) (Refused (NotCertified Head))
-  other_length : {n : ℕ} → 0 < length leads → next_head forms leads ≡ rounds 12 → (length (rows_of forms leads) ≢ n) → Gives forms limit leads (Verdict n) (Refused (NotCertified (Length (length (rows_of forms leads)))))
+pub data Gives (forms : List Shape) (limit : ℕ) (leads : List Lead) : Call (List ℕ) → BookAnswer → Type 0 where
+  adds : {f : ℕ} → Free forms limit leads f → Gives forms limit leads (Ring f) (Ok (Stands (length leads + 1)))
+  turns_down : {f : ℕ} {e : RingFault} → Turned forms limit leads f e → Gives forms limit leads (Ring f) (Err (NotRung e))
+  plays : {fs : List ℕ} → Reached forms limit leads fs (length fs) → Gives forms limit leads (Play fs) (Ok (Stands (length leads + length fs)))
+  stops : {fs : List ℕ} {m : ℕ} {e : RingFault} → m < length fs → Reached forms limit leads fs m → Turned forms limit (rung forms leads (take m fs)) (slice_index fs m) e → Gives forms limit leads (Play fs) (Err (NotPlayed (record { lead = m; fault = e })))
+  takes : (front : List Lead) (l : Lead) → leads ≡ front ++ l ∷ [] → Gives forms limit leads TakeBack (Ok (Form l.form))
+  takes_none : leads ≡ [] → Gives forms limit leads TakeBack (Err (NotTaken NoneToTake))
+  certifies : {n : ℕ} → TrueTouch forms leads n → Gives forms limit leads (Verdict n) (Ok (True (record { rows = length (rows_of forms leads); leads = length leads })))
+  no_lead : {n : ℕ} → leads ≡ [] → Gives forms limit leads (Verdict n) (Err (NotCertified NoLead))
+  not_round : {n : ℕ} → 0 < length leads → (next_head forms leads ≢ rounds 12) → Gives forms limit leads (Verdict n) (Err (NotCertified Head))
+  other_length : {n : ℕ} → 0 < length leads → next_head forms leads ≡ rounds 12 → (length (rows_of forms leads) ≢ n) → Gives forms limit leads (Verdict n) (Err (NotCertified (Length (length (rows_of forms leads)))))
 
 abbrev pub At : {X : Type 0} → List X → ℕ → X → Type 0
 At xs k x = slice_get xs k ≡ Some x
@@ -108,6 +106,6 @@ abbrev pub before : List Shape → ℕ → List (Call (List ℕ)) → ℕ → Li
 before forms limit calls k = standing forms limit (take k calls)
 
 -- one answer to each call, and it is b exactly when b is what the standing leads give
-pub record Lawful (forms : List Shape) (limit : ℕ) (calls : List (Call (List ℕ))) (answers : List Answer) : Type 0 where
+pub record Lawful (forms : List Shape) (limit : ℕ) (calls : List (Call (List ℕ))) (answers : List BookAnswer) : Type 0 where
   pub each : length answers ≡ length calls
-  pub exactly : (k : ℕ) (c : Call (List ℕ)) (a : Answer) → At calls k c → At answers k a → (b : Answer) → (a ≡ b) ↔ Gives forms limit (before forms limit calls k) c b
+  pub exactly : (k : ℕ) (c : Call (List ℕ)) (a : BookAnswer) → At calls k c → At answers k a → (b : BookAnswer) → (a ≡ b) ↔ Gives forms limit (before forms limit calls k) c b

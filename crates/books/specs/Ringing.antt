@@ -1,5 +1,5 @@
 -- What a ring, a take back and a verdict answer, and the leads that then stand.
-use Rattle.std.specs.Prelude.{◌≡◌, ℕ, suc, ◌+◌, ◌<◌, ◌≤◌, List, [], ◌∷◌, ◌++◌, length, take, Some, None, Ok, Err, Result, ◌≢◌, slice_index_or}
+use Rattle.std.specs.Prelude.{◌≡◌, ℕ, suc, ◌+◌, ◌-◌, ◌<◌, ◌≤◌, List, [], ◌∷◌, ◌++◌, length, take, Some, None, Ok, Err, Result, ◌≢◌, slice_index_or}
 use Rattle.books.specs.Law.{Past, Free, Turned, TrueTouch}
 use Rattle.books.specs.Leads.{Shape, Lead, next_head, rows_of, added, NoRepeat}
 use Rattle.books.specs.declared.call.Certificate.{Certificate}
@@ -8,7 +8,7 @@ use Rattle.books.specs.declared.fault.RingFault.TheVariants.{Form as NoForm, Lim
 use Rattle.books.specs.declared.fault.TakeBackFault.{TakeBackFault}
 use Rattle.books.specs.declared.fault.VerdictFault.{VerdictFault}
 use Rattle.books.specs.declared.fault.VerdictFault.TheVariants.{Leads as NoLead, Head, Length}
-use Rattle.registers.specs.Entries.{Entry, marked, entering}
+use Rattle.registers.specs.Entries.{Entry, Shelf, with_entries, marked, entering, entered}
 use Rattle.registers.specs.declared.entered.Entered.{Entered}
 use Rattle.registers.specs.declared.entered.Entered.TheVariants.{Added, Held}
 use Rattle.registers.specs.declared.fault.RegisterFault.{RegisterFault}
@@ -55,14 +55,29 @@ at_place p (Ok Added) = Ok tt
 at_place p (Ok (Held m)) = Err (Again p m)
 at_place p (Err e) = Err (Register e)
 
+-- what entering row x at place p answers, and the register after it
+abbrev pub row_answer : ℕ → List ℕ → Shelf → Result Unit RingFault
+row_answer p x s = at_place p (entering s (code x))
+
+abbrev pub row_entered : ℕ → List ℕ → Shelf → Shelf
+row_entered p x s = entered (entering s (code x)) (record { code = code x; mark = p }) s
+
+-- the register with new rows from place p on behind its entries
+abbrev pub with_placed : ℕ → List (List ℕ) → Shelf → Shelf
+with_placed p xs s = with_entries (s.entries ++ placed p xs) s
+
+-- the register without its last entries, as many of this number as there are
+abbrev pub without : ℕ → Shelf → Shelf
+without n s = with_entries (take (length s.entries - n) s.entries) s
+
 -- the new rows up to k are absent when each of them is entered
 abbrev pub Absent : List Entry → ℕ → List (List ℕ) → ℕ → Type 0
 Absent es p new k = (i : ℕ) → i < k → marked (code (slice_index_or new i [])) (es ++ placed p (take i new)) ≡ None
 
--- what entering new rows from place p on answers, and the entries that then stand
-abbrev pub Enters : ℕ → ℕ → List Entry → ℕ → List (List ℕ) → Result Unit RingFault → List Entry → Type 0
-Enters reach capacity es p new (Ok _) after = (after ≡ es ++ placed p new) × Absent es p new (length new)
-Enters reach capacity es p new (Err NoForm) after = ⊥
-Enters reach capacity es p new (Err Limit) after = ⊥
-Enters reach capacity es p new (Err (Again i j)) after = (after ≡ es) × ((k : ℕ) × (k < length new) × (i ≡ p + k) × (marked (code (slice_index_or new k [])) (es ++ placed p (take k new)) ≡ Some j) × Absent es p new k)
-Enters reach capacity es p new (Err (Register e)) after = (after ≡ es) × ((k : ℕ) × (k < length new) × (entering reach capacity (es ++ placed p (take k new)) (code (slice_index_or new k [])) ≡ Err e) × Absent es p new k)
+-- what entering new rows from place p on answers, and the register after it
+abbrev pub Enters : Shelf → ℕ → List (List ℕ) → Result Unit RingFault → Shelf → Type 0
+Enters s p new (Ok _) after = (after ≡ with_placed p new s) × Absent s.entries p new (length new)
+Enters s p new (Err NoForm) after = ⊥
+Enters s p new (Err Limit) after = ⊥
+Enters s p new (Err (Again i j)) after = (after ≡ s) × ((k : ℕ) × (k < length new) × (i ≡ p + k) × (marked (code (slice_index_or new k [])) (s.entries ++ placed p (take k new)) ≡ Some j) × Absent s.entries p new k)
+Enters s p new (Err (Register e)) after = (after ≡ s) × ((k : ℕ) × (k < length new) × (entering (with_placed p (take k new) s) (code (slice_index_or new k [])) ≡ Err e) × Absent s.entries p new k)

@@ -7,6 +7,7 @@ use crate::call::Certificate;
 use crate::fault::{RingFault, TakeBackFault, VerdictFault};
 
 pub trait Book {
+    // apart from the limit, since most of the law speaks of the forms alone
     ghost forms: { Self → List Shape };
 
     ghost limit: { Self → ℕ };

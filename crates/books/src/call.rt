@@ -12,19 +12,22 @@ pub enum Call<S> {
 }
 
 // What a verdict certifies: a true touch of so many rows and leads.
-#[derive(Clone, Copy)]
+#[derive(Clone, Copy, Debug, PartialEq, Eq)]
 pub struct Certificate {
     pub rows: usize,
     pub leads: usize,
 }
 
-#[derive(Clone, Copy)]
-pub enum Answer {
+// What a call gives that is not turned down.
+#[derive(Clone, Copy, Debug, PartialEq, Eq)]
+pub enum Reply {
     // how many leads stand after a ring or a play
     Stands(usize),
     // the form of the lead that was taken back
     Form(u8),
     // a true touch
     True(Certificate),
-    Refused(BookFault),
 }
+
+// What a book answers to a call.
+pub type Answer = Result<Reply, BookFault>;

@@ -1,65 +1,76 @@
 // Why a book is not opened, and why it turns a call down.
 ghost use Rattle.books.specs.Causes.{opening_cause, ring_cause, play_cause, take_back_cause, verdict_cause, book_cause};
+ghost use Rattle.books.specs.declared.fault.BookFault.TheVariants.{Ring, Play, TakeBack, Verdict};
 ghost use Rattle.books.specs.declared.fault.RingFault.TheVariants.{Register};
 ghost use Rattle.std.specs.Prelude.{◌≡◌};
 
-use causes::{Cause, Refusal, Values};
+use causes::{Cause, Refusal};
 use registers::fault::RegisterFault;
-use std::fmt;
+use thiserror::Error;
 
 // Why a lead is turned down.
-#[derive(Clone, Copy)]
+#[derive(Clone, Copy, Debug, PartialEq, Eq, Error)]
 pub enum RingFault {
     // the number is not one of a form in the list
+    #[error("no form has this number")]
     Form,
     // as many leads stand as the limit allows
+    #[error("the lead limit is reached")]
     Limit,
     // a row is already in the book: the place that it would take, and the place where it stands
+    #[error("a row is already in the book")]
     Again { new: usize, old: usize },
     // the register was not left to the book
+    #[error(transparent)]
     Register(RegisterFault),
 }
 
 // Why a play is turned down: its first lead that is, counted from 0, and why.
-#[derive(Clone, Copy)]
+#[derive(Clone, Copy, Debug, PartialEq, Eq, Error)]
+#[error("{fault}")]
 pub struct PlayFault {
     pub lead: usize,
     pub fault: RingFault,
 }
 
-#[derive(Clone, Copy)]
+#[derive(Clone, Copy, Debug, PartialEq, Eq, Error)]
 pub enum TakeBackFault {
-    // there is no lead
+    #[error("there is no lead to take back")]
     Leads,
 }
 
-#[derive(Clone, Copy)]
+#[derive(Clone, Copy, Debug, PartialEq, Eq, Error)]
 pub enum VerdictFault {
-    // no lead stands
+    #[error("no lead stands")]
     Leads,
-    // the next head is not rounds
+    #[error("the next head is not rounds")]
     Head,
     // the length is this one, and not the one claimed
+    #[error("the length is not the one claimed")]
     Length(usize),
 }
 
-#[derive(Clone, Copy)]
+#[derive(Clone, Copy, Debug, PartialEq, Eq, Error)]
 pub enum BookFault {
+    #[error(transparent)]
     Ring(RingFault),
+    #[error(transparent)]
     Play(PlayFault),
+    #[error(transparent)]
     TakeBack(TakeBackFault),
+    #[error(transparent)]
     Verdict(VerdictFault),
 }
 
-#[derive(Clone, Copy)]
+#[derive(Clone, Copy, Debug, PartialEq, Eq, Error)]
 pub enum OpeningFault {
-    // the lead limit is not 1 to 1,280
+    #[error("the lead limit is not 1 to 1280")]
     Limit,
-    // the register has entries
+    #[error("the register has entries")]
     Held,
-    // the reach or the capacity of the register is too small
+    #[error("the reach or the capacity of the register is too small")]
     Small,
-    // there is no memory for so many leads
+    #[error("there is no memory for so many leads")]
     Memory,
 }
 
@@ -68,38 +79,10 @@ impl Refusal for RingFault {
 
     fn cause(&self) -> Cause {
         match *self {
-            RingFault::Form => Cause {
-                number: 16,
-                values: Values::None,
-            },
-            RingFault::Limit => Cause {
-                number: 17,
-                values: Values::None,
-            },
-            RingFault::Again { new, old } => Cause {
-                number: 18,
-                values: Values::Two(new, old),
-            },
+            RingFault::Form => Cause::plain(16),
+            RingFault::Limit => Cause::plain(17),
+            RingFault::Again { new, old } => Cause::two(18, new, old),
             RingFault::Register(fault) => fault.cause(),
-        }
-    }
-}
-
-impl From<RegisterFault> for RingFault {
-    ghost from_gives = { λ e r. r ≡ Register e };
-
-    fn from(fault: RegisterFault) -> RingFault {
-        RingFault::Register(fault)
-    }
-}
-
-impl fmt::Display for RingFault {
-    fn fmt<W: fmt::Write>(&self, f: &mut fmt::Formatter<W>) -> fmt::Result {
-        match self {
-            RingFault::Form => f.write_str("no form has this number"),
-            RingFault::Limit => f.write_str("the lead limit is reached"),
-            RingFault::Again { .. } => f.write_str("a row is already in the book"),
-            RingFault::Register(fault) => write!(f, "{fault}"),
         }
     }
 }
@@ -113,30 +96,12 @@ impl Refusal for PlayFault {
     }
 }
 
-impl fmt::Display for PlayFault {
-    fn fmt<W: fmt::Write>(&self, f: &mut fmt::Formatter<W>) -> fmt::Result {
-        let fault = self.fault;
-        write!(f, "{fault}")
-    }
-}
-
 impl Refusal for TakeBackFault {
     ghost caused = { take_back_cause };
 
     fn cause(&self) -> Cause {
         match self {
-            TakeBackFault::Leads => Cause {
-                number: 19,
-                values: Values::None,
-            },
-        }
-    }
-}
-
-impl fmt::Display for TakeBackFault {
-    fn fmt<W: fmt::Write>(&self, f: &mut fmt::Formatter<W>) -> fmt::Result {
-        match self {
-            TakeBackFault::Leads => f.write_str("there is no lead to take back"),
+            TakeBackFault::Leads => Cause::plain(19),
         }
     }
 }
@@ -146,28 +111,9 @@ impl Refusal for VerdictFault {
 
     fn cause(&self) -> Cause {
         match *self {
-            VerdictFault::Leads => Cause {
-                number: 20,
-                values: Values::None,
-            },
-            VerdictFault::Head => Cause {
-                number: 21,
-                values: Values::None,
-            },
-            VerdictFault::Length(rows) => Cause {
-                number: 22,
-                values: Values::One(rows),
-            },
-        }
-    }
-}
-
-impl fmt::Display for VerdictFault {
-    fn fmt<W: fmt::Write>(&self, f: &mut fmt::Formatter<W>) -> fmt::Result {
-        match self {
-            VerdictFault::Leads => f.write_str("no lead stands"),
-            VerdictFault::Head => f.write_str("the next head is not rounds"),
-            VerdictFault::Length(_) => f.write_str("the length is not the one claimed"),
+            VerdictFault::Leads => Cause::plain(20),
+            VerdictFault::Head => Cause::plain(21),
+            VerdictFault::Length(rows) => Cause::one(22, rows),
         }
     }
 }
@@ -185,44 +131,57 @@ impl Refusal for BookFault {
     }
 }
 
-impl fmt::Display for BookFault {
-    fn fmt<W: fmt::Write>(&self, f: &mut fmt::Formatter<W>) -> fmt::Result {
-        match self {
-            BookFault::Ring(fault) => write!(f, "{fault}"),
-            BookFault::Play(fault) => write!(f, "{fault}"),
-            BookFault::TakeBack(fault) => write!(f, "{fault}"),
-            BookFault::Verdict(fault) => write!(f, "{fault}"),
-        }
-    }
-}
-
 // A want of memory is no refusal of the call, and no cause has its number: 0.
 impl Refusal for OpeningFault {
     ghost caused = { opening_cause };
 
     fn cause(&self) -> Cause {
-        let number = match self {
-            OpeningFault::Limit => 13,
-            OpeningFault::Held => 14,
-            OpeningFault::Small => 15,
-            OpeningFault::Memory => 0,
-        };
-        Cause {
-            number,
-            values: Values::None,
+        match self {
+            OpeningFault::Limit => Cause::plain(13),
+            OpeningFault::Held => Cause::plain(14),
+            OpeningFault::Small => Cause::plain(15),
+            OpeningFault::Memory => Cause::plain(0),
         }
     }
 }
 
-impl fmt::Display for OpeningFault {
-    fn fmt<W: fmt::Write>(&self, f: &mut fmt::Formatter<W>) -> fmt::Result {
-        match self {
-            OpeningFault::Limit => f.write_str("the lead limit is not 1 to 1280"),
-            OpeningFault::Held => f.write_str("the register has entries"),
-            OpeningFault::Small => f.write_str(
-                "the reach or the capacity of the register is too small",
-            ),
-            OpeningFault::Memory => f.write_str("there is no memory for so many leads"),
-        }
+// These are written out, and not derived, since what `?` makes of a fault is part of the contracts.
+impl From<RegisterFault> for RingFault {
+    ghost from_gives = { λ e r. r ≡ Register e };
+
+    fn from(fault: RegisterFault) -> RingFault {
+        RingFault::Register(fault)
+    }
+}
+
+impl From<RingFault> for BookFault {
+    ghost from_gives = { λ e r. r ≡ Ring e };
+
+    fn from(fault: RingFault) -> BookFault {
+        BookFault::Ring(fault)
+    }
+}
+
+impl From<PlayFault> for BookFault {
+    ghost from_gives = { λ e r. r ≡ Play e };
+
+    fn from(fault: PlayFault) -> BookFault {
+        BookFault::Play(fault)
+    }
+}
+
+impl From<TakeBackFault> for BookFault {
+    ghost from_gives = { λ e r. r ≡ TakeBack e };
+
+    fn from(fault: TakeBackFault) -> BookFault {
+        BookFault::TakeBack(fault)
+    }
+}
+
+impl From<VerdictFault> for BookFault {
+    ghost from_gives = { λ e r. r ≡ Verdict e };
+
+    fn from(fault: VerdictFault) -> BookFault {
+        BookFault::Verdict(fault)
     }
 }

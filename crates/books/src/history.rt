@@ -4,8 +4,7 @@ ghost use Rattle.books.specs.Law.{plain, after, Gives, Lawful, standing};
 ghost use Rattle.books.specs.Theorems.{Sound, VerdictsTrue, RingsTurned, PlaysTurned};
 
 use crate::book::Book;
-use crate::call::{Answer, Call};
-use crate::fault::BookFault;
+use crate::call::{Answer, Call, Reply};
 use crate::play::play;
 use sources::source::Source;
 
@@ -16,22 +15,10 @@ pub fn answer<B: Book, S: Source>(book: &mut B, call: &mut Call<S>) -> Answer
     ensures law { B.Book.kept book.old → B.Book.kept book.new × (B.Book.leads book.new ≡ after (B.Book.forms book.old) (B.Book.limit book.old) (B.Book.leads book.old) (plain S.Source.list call.old)) × Gives (B.Book.forms book.old) (B.Book.limit book.old) (B.Book.leads book.old) (plain S.Source.list call.old) result }
 {
     match call {
-        Call::Ring(form) => match book.ring(*form) {
-            Ok(stand) => Answer::Stands(stand),
-            Err(fault) => Answer::Refused(BookFault::Ring(fault)),
-        },
-        Call::Play(source) => match play(book, source) {
-            Ok(stand) => Answer::Stands(stand),
-            Err(fault) => Answer::Refused(BookFault::Play(fault)),
-        },
-        Call::TakeBack => match book.take_back() {
-            Ok(form) => Answer::Form(form),
-            Err(fault) => Answer::Refused(BookFault::TakeBack(fault)),
-        },
-        Call::Verdict(claimed) => match book.verdict(*claimed) {
-            Ok(certificate) => Answer::True(certificate),
-            Err(fault) => Answer::Refused(BookFault::Verdict(fault)),
-        },
+        Call::Ring(form) => Ok(Reply::Stands(book.ring(*form)?)),
+        Call::Play(source) => Ok(Reply::Stands(play(book, source)?)),
+        Call::TakeBack => Ok(Reply::Form(book.take_back()?)),
+        Call::Verdict(claimed) => Ok(Reply::True(book.verdict(*claimed)?)),
     }
 }
 
@@ -47,8 +34,9 @@ pub fn run<B: Book, S: Source>(book: &mut B, calls: &mut [Call<S>], answers: &mu
     ensures plays { B.Book.kept book.old → B.Book.leads book.old ≡ [] → Sound (B.Book.forms book.old) → PlaysTurned (B.Book.forms book.old) (B.Book.limit book.old) (take result (map (plain S.Source.list) calls.old)) (take result answers.new) }
 {
     let number = calls.len().min(answers.len());
-    for i in 0..number {
-        answers[i] = answer(book, &mut calls[i]);
+    // behind a zip with `iter_mut` nothing is known of what was written, so the answers go by place
+    for (i, call) in calls[..number].iter_mut().enumerate() {
+        answers[i] = answer(book, call);
     }
     number
 }

@@ -12,10 +12,8 @@ fn take_back_to<B: Book>(book: &mut B, stand: usize)
     ensures leads { B.Book.leads book.new ≡ take stand (B.Book.leads book.old) }
     ensures law { B.Book.kept book.old → B.Book.kept book.new }
 {
-    let mut left = book.count();
-    while left > stand {
+    for _ in stand..book.count() {
         let _ = book.take_back();
-        left -= 1;
     }
 }
 

@@ -1,14 +1,15 @@
 // A touch on a row book: opened on closed forms, and every call of a list answered.
 ghost use Rattle.books.specs.Forms.{shapes};
 ghost use Rattle.books.specs.Law.{plain, Lawful};
-ghost use Rattle.books.specs.Opening.{Obstacle, RefusedFor};
+ghost use Rattle.books.specs.Opening.{Openable, RefusedFor};
 ghost use Rattle.books.specs.Theorems.{VerdictsTrue, RingsTurned, PlaysTurned};
-ghost use Rattle.std.specs.Prelude.{◌≡◌, min, false, map, length, take, drop, IfOk, None, MatchResult};
+ghost use Rattle.std.specs.Prelude.{◌≡◌, min, false, map, length, take, drop, IfOk, MatchResult};
 
 use crate::call::{Answer, Call};
+use crate::fault::OpeningFault;
 use crate::history::run;
-use crate::row_book::open::Unopened;
 use crate::row_book::state::RowBook;
+use causes::Returned;
 use forms::list::{Forms, ListState};
 use registers::register::Register;
 use rows::row::Row;
@@ -23,9 +24,9 @@ pub fn prove_rows<F: ListState, R: Register<Row> + Drop, S: Source>(
     register: R,
     calls: &mut [Call<S>],
     answers: &mut [Answer],
-) -> Result<usize, Unopened<R>>
+) -> Result<usize, Returned<R, OpeningFault>>
     requires { F.ListState.open ≡ false }
-    ensures opening { MatchResult result (λ n. (n ≡ min (length calls.old) (length answers.old)) × Obstacle forms.now.stage.bells limit (R.Register.reach register) (R.Register.capacity register) (R.Register.entries register) None) (λ e. (e.register ≡ register) × RefusedFor forms.now.stage.bells limit (R.Register.reach register) (R.Register.capacity register) (R.Register.entries register) e.fault) }
+    ensures opening { MatchResult result (λ n. (n ≡ min (length calls.old) (length answers.old)) × Openable forms.now.stage.bells limit (R.Register.shelf register)) (λ e. (e.value ≡ register) × RefusedFor forms.now.stage.bells limit (R.Register.shelf register) e.fault) }
     ensures calls { map (plain S.Source.list) calls.new ≡ map (plain S.Source.list) calls.old }
     ensures rest { MatchResult result (λ n. drop n answers.new ≡ drop n answers.old) (λ _. answers.new ≡ answers.old) }
     ensures law { IfOk result (λ n. Lawful (shapes forms.now.list.items) limit (take n (map (plain S.Source.list) calls.old)) (take n answers.new)) }

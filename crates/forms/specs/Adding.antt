@@ -1,6 +1,6 @@
 -- Adding a form to a list: when it is taken, and what each refusal says. The checks come in the order letter and mark, room, notation,
 -- length of the ending, repeated row.
-use Rattle.std.specs.Prelude.{◌≡◌, ℕ, ◌-◌, ◌<◌, ◌≤◌, Bool, List, [], ◌∷◌, ◌++◌, length, take, Ok, Err, vec_items, Result, ◌≢◌}
+use Rattle.std.specs.Prelude.{◌≡◌, ℕ, ◌-◌, ◌<◌, ◌≤◌, Bool, List, [], ◌∷◌, ◌++◌, length, take, Ok, Err, vec_items, Result, ◌≢◌, MatchResult}
 use Rattle.forms.specs.Leads.{FirstRepeat, NoRepeat}
 use Rattle.forms.specs.declared.fault.FormFault.{FormFault}
 use Rattle.forms.specs.declared.fault.FormFault.TheVariants.{Letter, Full, Notation, Ending, Repeat}
@@ -12,7 +12,7 @@ use Rattle.forms.specs.declared.list.Forms.{Forms}
 use Rattle.notation.specs.Drafts.{listed}
 use Rattle.notation.specs.Faults.{First, Right}
 use Rattle.rows.specs.declared.stage.Stage.{Stage}
-use Rattle.std.specs.List.{ContainsAt as Has}
+use Rattle.std.specs.List.{ContainsAt as Has, HoldsAt}
 
 -- how a mark is written: `.`, `-` and `s`
 abbrev pub mark_byte : Mark → ℕ
@@ -20,12 +20,20 @@ mark_byte Plain = 46
 mark_byte Bob = 45
 mark_byte Single = 115
 
+-- the mark of a call that a byte writes, or the refusal of a byte that writes none
+abbrev pub CallMark : ℕ → Result Mark FormFault → Type 0
+CallMark byte r = MatchResult r (λ m. (mark_byte m ≡ byte) × (m ≢ Plain)) (λ e. (e ≡ Letter) × (byte ≢ 45) × (byte ≢ 115))
+
 -- the list has this form, and it has this letter and mark
 abbrev pub FormWith : List Form → ℕ → Mark → Form → Type 0
 FormWith fs letter m f = Has fs f × (f.letter ≡ letter) × (f.mark ≡ m)
 
 abbrev pub NoForm : List Form → ℕ → Mark → Type 0
 NoForm fs letter m = (f : Form) → FormWith fs letter m f → ⊥
+
+-- the form with number k has this letter and mark
+abbrev pub FormAt : List Form → ℕ → Mark → ℕ → Type 0
+FormAt fs letter m k = (k < length fs) × HoldsAt (λ (f : Form). (f.letter ≡ letter) × (f.mark ≡ m)) fs k
 
 -- a form with this letter, mark and changes stands at the end of the list
 abbrev pub Added : List Form → List Form → ℕ → Mark → List (List Bool) → Type 0
@@ -79,13 +87,6 @@ AddsCall n fs fs' letter byte t (Ok k) =
 AddsCall n fs fs' letter byte t (Err e) = (fs' ≡ fs) × CallFault n fs letter byte t e
 
 -- what storing a form with these changes answers: its number, or the row that it repeats
-abbrev pub StoresFault : List (List Bool) → FormFault → Type 0
-StoresFault cs Letter = ⊥
-StoresFault cs Full = ⊥
-StoresFault cs (Notation g) = ⊥
-StoresFault cs Ending = ⊥
-StoresFault cs (Repeat j i) = FirstRepeat cs j i
-
 abbrev pub Stores : List Form → List Form → ℕ → Mark → List (List Bool) → Result ℕ FormFault → Type 0
 Stores fs fs' letter m cs (Ok k) = (k ≡ length fs) × NoRepeat cs × Added fs fs' letter m cs
-Stores fs fs' letter m cs (Err e) = (fs' ≡ fs) × StoresFault cs e
+Stores fs fs' letter m cs (Err e) = (fs' ≡ fs) × ((j : ℕ) × (i : ℕ) × (e ≡ Repeat j i) × FirstRepeat cs j i)

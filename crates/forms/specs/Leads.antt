@@ -1,8 +1,7 @@
 -- The rows of a lead.
-use Rattle.std.specs.Prelude.{◌≡◌, ℕ, ◌-◌, ◌<◌, Bool, true, ◌&&◌, ◌||◌, List, [], ◌∷◌, length, ◌≢◌, nat_le, slice_index_or}
+use Rattle.std.specs.Prelude.{◌≡◌, ℕ, ◌<◌, Bool, List, [], ◌∷◌, length, ◌≢◌, slice_index_or, All}
 use Rattle.notation.specs.Changes.{rung, ChangeOn}
-use Rattle.rows.specs.Rows.{each, rounds}
-use Rattle.std.specs.List.{range_with_len}
+use Rattle.rows.specs.Rows.{rounds}
 
 -- a row, and each next row the one before with the next change rung
 unfoldable pub rows_from : List (List Bool) → List ℕ → List (List ℕ)
@@ -34,12 +33,4 @@ NoRepeat cs = (j i : ℕ) → j < length cs → i < j → row_at cs i ≢ row_at
 
 -- every change is one on n bells
 abbrev pub ChangesOn : ℕ → List (List Bool) → Type 0
-ChangesOn n cs = (k : ℕ) → k < length cs → ChangeOn n (slice_index_or cs k [])
-
--- the same as a test
-abbrev pub change_on : ℕ → List Bool → Bool
-change_on n c = each (λ p. nat_le p n || slice_index_or c (p - 1) true) (range_with_len 1 12)
-
-abbrev pub changes_on : ℕ → List (List Bool) → Bool
-changes_on n [] = true
-changes_on n (c ∷ cs) = change_on n c && changes_on n cs
+ChangesOn n cs = All (ChangeOn n) cs

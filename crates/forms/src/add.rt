@@ -1,11 +1,10 @@
 // Adding forms to an open list.
-ghost use Rattle.std.specs.Prelude.{◌≡◌, ◌<◌, true, length, Decides, MatchOption, ◌≢◌, nat_le};
-ghost use Rattle.forms.specs.Adding.{mark_byte, FormWith, NoForm, MayMethod, Stores, AddsMethod, AddsCall};
-ghost use Rattle.forms.specs.Leads.{changes_on};
+ghost use Rattle.std.specs.Prelude.{◌≡◌, ◌<◌, true, length, Decides, ◌≤◌, MatchBool, MatchOption};
+ghost use Rattle.forms.specs.Adding.{FormWith, NoForm, FormAt, MayMethod, Stores, AddsMethod, AddsCall};
+ghost use Rattle.forms.specs.Leads.{ChangesOn};
 ghost use Rattle.forms.specs.declared.form.Form.{Form as FormValue};
 ghost use Rattle.forms.specs.declared.form.Mark.TheVariants.{Plain};
 ghost use Rattle.notation.specs.Drafts.{listed};
-ghost use Rattle.std.specs.List.{HoldsAt};
 
 use crate::ending::with_ending;
 use crate::fault::FormFault;
@@ -15,32 +14,25 @@ use crate::list::{Forms, ListState};
 use notation::changes::Changes;
 use notation::reader::read;
 
-// The mark of a call that is written so.
-fn call_mark(byte: u8) -> Option<Mark>
-    ensures { MatchOption result ((byte ≢ 45) × (byte ≢ 115)) (λ m. (mark_byte m ≡ byte) × (m ≢ Plain)) }
-{
-    match byte {
-        b'-' => Some(Mark::Bob),
-        b's' => Some(Mark::Single),
-        _ => None,
-    }
-}
-
 impl<S: ListState> Forms<S> {
     // The number of the form with this letter and mark.
     pub fn number_of(&self, letter: u8, mark: Mark) -> Option<usize>
-        ensures { MatchOption result (NoForm self.now.list.items letter mark) (λ k. (k < length self.now.list.items) × HoldsAt (λ f. (f.letter ≡ letter) × (f.mark ≡ mark)) self.now.list.items k) }
+        ensures { MatchOption result (NoForm self.now.list.items letter mark) (FormAt self.now.list.items letter mark) }
     {
-        for (k, form) in self.list.iter().enumerate() {
-            if form.letter == letter && form.mark == mark {
-                return Some(k);
-            }
-        }
-        None
+        self.list
+            .iter()
+            .position(|form| form.letter == letter && form.mark == mark)
+    }
+
+    // Whether no form has this letter and mark.
+    fn is_free(&self, letter: u8, mark: Mark) -> bool
+        ensures { Decides result (NoForm self.now.list.items letter mark) }
+    {
+        self.number_of(letter, mark).is_none()
     }
 
     fn is_full(&self) -> bool
-        ensures { result ≡ nat_le 16 (length self.now.list.items) }
+        ensures { MatchBool result (16 ≤ length self.now.list.items) (length self.now.list.items < 16) }
     {
         self.list.len() >= 16
     }
@@ -49,32 +41,29 @@ impl<S: ListState> Forms<S> {
     fn takes_method(&self, letter: u8) -> bool
         ensures { Decides result (MayMethod self.now.list.items letter) }
     {
-        match self.number_of(letter, Mark::Plain) {
-            Some(_) => false,
-            None => letter >= b'A' && letter <= b'Z',
-        }
+        letter.is_ascii_uppercase() && self.is_free(letter, Mark::Plain)
     }
 
-    // The number of the method that a call with this letter and mark is of, if there may be such a call.
-    fn called_method(&self, letter: u8, mark: Mark) -> Option<usize>
-        ensures { MatchOption result ((f : FormValue) → FormWith self.now.list.items letter Plain f → NoForm self.now.list.items letter mark → ⊥) (λ k. (k < length self.now.list.items) × HoldsAt (λ f. (f.letter ≡ letter) × (f.mark ≡ Plain)) self.now.list.items k × NoForm self.now.list.items letter mark) }
+    // The method that a call with this letter and mark is of, if there may be such a call.
+    fn called_method(&self, letter: u8, mark: Mark) -> Option<&Form>
+        ensures { MatchOption result ((f : FormValue) → FormWith self.now.list.items letter Plain f → NoForm self.now.list.items letter mark → ⊥) (λ f. FormWith self.now.list.items letter Plain f.now × NoForm self.now.list.items letter mark) }
     {
-        match self.number_of(letter, mark) {
-            Some(_) => None,
-            None => self.number_of(letter, Mark::Plain),
+        if !self.is_free(letter, mark) {
+            return None;
         }
+        self.form(self.number_of(letter, Mark::Plain)?)
     }
 
     // Stores a form with these changes at the end, unless its lead repeats a row.
     fn store(&mut self, letter: u8, mark: Mark, changes: Changes) -> Result<usize, FormFault>
         requires room { length self.old.list.items < 16 }
         requires some { 0 < changes.count }
-        requires staged { changes_on self.old.stage.bells (listed changes) ≡ true }
+        requires staged { ChangesOn self.old.stage.bells (listed changes) }
         ensures answer { Stores self.old.list.items self.new.list.items letter mark (listed changes) result }
         ensures stage { self.new.stage ≡ self.old.stage }
     {
         let rows = lead_rows(&changes);
-        if let Some((j, i)) = first_repeat(&rows, changes.count) {
+        if let Some((j, i)) = first_repeat(&rows[..changes.count]) {
             return Err(FormFault::Repeat(j, i));
         }
         let number = self.list.len();
@@ -109,19 +98,13 @@ impl<S: ListState> Forms<S> {
         ensures answer { AddsCall self.old.stage.bells self.old.list.items self.new.list.items letter mark text.now result }
         ensures stage { self.new.stage ≡ self.old.stage }
     {
-        let Some(mark) = call_mark(mark) else {
-            return Err(FormFault::Letter);
-        };
-        let Some(method) = self.called_method(letter, mark) else {
-            return Err(FormFault::Letter);
-        };
+        let mark = Mark::try_from(mark)?;
+        let method = self.called_method(letter, mark).ok_or(FormFault::Letter)?;
         if self.is_full() {
             return Err(FormFault::Full);
         }
         let ending = read(self.stage, text)?;
-        let Some(changes) = with_ending(&self.list[method].changes, &ending) else {
-            return Err(FormFault::Ending);
-        };
+        let changes = with_ending(&method.changes, &ending).ok_or(FormFault::Ending)?;
         self.store(letter, mark, changes)
     }
 }
@@ -141,7 +124,7 @@ mod tests {
             forms.add_method(b'A', b"&-16-16-16,12"),
             Err(FormFault::Letter)
         );
-        assert!(rt; forms.list.len() == 2);
+        assert_eq!(rt; forms.list.len(), 2);
         assert_eq!(rt;
             &forms.list[0].turn().characters()[0..6],
             b"135264".as_slice()

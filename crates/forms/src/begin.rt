@@ -30,14 +30,9 @@ impl<S: ListState + Drop> Forms<S> {
         requires { S.ListState.open ≡ true }
         ensures { (result.stage ≡ self.stage) × (result.list.items ≡ self.list.items) }
     {
-        let Forms {
-            stage,
-            list,
-            state: _,
-        } = self;
         Forms {
-            stage,
-            list,
+            stage: self.stage,
+            list: self.list,
             state: Closed,
         }
     }
@@ -56,9 +51,6 @@ impl Forms<Closed> {
         let mut forms = empty(heap, stage, Open)?;
         let added = forms.add_method(letter, text);
         let closed = forms.close();
-        match added {
-            Ok(_) => Ok(Ok(closed)),
-            Err(fault) => Ok(Err(fault)),
-        }
+        Ok(added.map(|_| closed))
     }
 }

@@ -8,16 +8,8 @@ use notation::changes::Changes;
 pub(crate) fn with_ending(lead: &Changes, ending: &Changes) -> Option<Changes>
     ensures { MatchOption result (length (listed lead.now) < length (listed ending.now)) (λ c. (length (listed ending.now) ≤ length (listed lead.now)) × (listed c ≡ take (length (listed lead.now) - length (listed ending.now)) (listed lead.now) ++ listed ending.now)) }
 {
-    if lead.count < ending.count {
-        return None;
-    }
-    let from = lead.count - ending.count;
-    let mut list = lead.list;
-    for k in 0..ending.count {
-        list[from + k] = ending.list[k];
-    }
-    Some(Changes {
-        list,
-        count: lead.count,
-    })
+    let from = lead.count.checked_sub(ending.count)?;
+    let mut changes = *lead;
+    changes.list[from..lead.count].copy_from_slice(ending.as_slice());
+    Some(changes)
 }

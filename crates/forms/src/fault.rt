@@ -3,20 +3,22 @@ ghost use Rattle.forms.specs.Causes.{cause};
 ghost use Rattle.forms.specs.declared.fault.FormFault.TheVariants.{Notation};
 ghost use Rattle.std.specs.Prelude.{◌≡◌};
 
-use causes::{Cause, Refusal, Values};
+use causes::{Cause, Refusal};
 use notation::fault::Fault;
-use std::fmt;
+use thiserror::Error;
 
-#[derive(Clone, Copy, Debug, PartialEq, Eq)]
+#[derive(Clone, Copy, Debug, PartialEq, Eq, Error)]
 pub enum FormFault {
-    // a letter or a mark that is not allowed, is used, or is of no method
+    #[error("a letter or mark not allowed, used, or of no method")]
     Letter,
-    // sixteen forms already
+    #[error("sixteen forms already")]
     Full,
+    #[error(transparent)]
     Notation(Fault),
-    // an ending longer than the lead
+    #[error("the ending is longer than the lead")]
     Ending,
     // the first place whose row stood already, and the place before it where it stood
+    #[error("the lead repeats a row in itself")]
     Repeat(usize, usize),
 }
 
@@ -25,43 +27,20 @@ impl Refusal for FormFault {
 
     fn cause(&self) -> Cause {
         match self {
-            FormFault::Letter => Cause {
-                number: 6,
-                values: Values::None,
-            },
-            FormFault::Full => Cause {
-                number: 7,
-                values: Values::None,
-            },
+            FormFault::Letter => Cause::plain(6),
+            FormFault::Full => Cause::plain(7),
             FormFault::Notation(fault) => fault.cause(),
-            FormFault::Ending => Cause {
-                number: 8,
-                values: Values::None,
-            },
-            FormFault::Repeat(j, i) => Cause {
-                number: 9,
-                values: Values::Two(*j, *i),
-            },
+            FormFault::Ending => Cause::plain(8),
+            FormFault::Repeat(j, i) => Cause::two(9, *j, *i),
         }
     }
 }
 
+// By hand, since the `From` that `#[from]` writes does not say which fault a `?` makes.
 impl From<Fault> for FormFault {
     ghost from_gives = { λ e r. r ≡ Notation e };
 
     fn from(fault: Fault) -> FormFault {
         FormFault::Notation(fault)
-    }
-}
-
-impl fmt::Display for FormFault {
-    fn fmt<W: fmt::Write>(&self, f: &mut fmt::Formatter<W>) -> fmt::Result {
-        match self {
-            FormFault::Letter => f.write_str("a letter or mark not allowed, used, or of no method"),
-            FormFault::Full => f.write_str("sixteen forms already"),
-            FormFault::Notation(fault) => write!(f, "{fault}"),
-            FormFault::Ending => f.write_str("the ending is longer than the lead"),
-            FormFault::Repeat(_, _) => f.write_str("the lead repeats a row in itself"),
-        }
     }
 }

@@ -1,8 +1,8 @@
 // A lead form: its letter and mark, its changes, and the rows that they ring from rounds on.
 ghost use Rattle.std.specs.Prelude.{◌≡◌, ℕ, suc, ◌<◌, ◌≤◌, map, length, take};
 ghost use Rattle.forms.specs.Leads.{lead_rows, NoRepeat};
+ghost use Rattle.forms.specs.Repeats.{bells_of};
 ghost use Rattle.notation.specs.Drafts.{listed};
-ghost use Rattle.rows.specs.declared.row.Row.{Row as RowValue};
 
 use notation::changes::Changes;
 use rows::row::Row;
@@ -20,9 +20,9 @@ pub struct Form {
     pub letter: u8,
     pub mark: Mark,
     pub changes: Changes,
-    // r(0), which is rounds, to r(L), the turn; the rest is unused
+    // r(0), which is rounds, to r(L), the turn; the rest is unused. An array, since adding a form asks for no memory
     pub rows: [Row; 65],
     ghost some: { 0 < changes.count },
-    ghost rung: { map (λ (r : RowValue). r.bells) (take (suc changes.count) rows) ≡ lead_rows (listed changes) },
+    ghost rung: { map bells_of (take (suc changes.count) rows) ≡ lead_rows (listed changes) },
     ghost apart: { NoRepeat (listed changes) },
 }

@@ -8,5 +8,6 @@ pub mod fault;
 pub mod form;
 mod lead;
 pub mod list;
+mod mark;
 pub mod row;
 pub mod worked;

@@ -1,6 +1,6 @@
 // A list of forms, open or closed.
 ghost use Rattle.std.specs.Prelude.{◌≡◌, ◌<◌, ◌≤◌, Bool, true, false, length, vec_len, vec_capacity, MatchOption};
-ghost use Rattle.forms.specs.Staged.{forms_on};
+ghost use Rattle.forms.specs.Staged.{FormsOn};
 ghost use Rattle.std.specs.List.{HoldsAt};
 
 use crate::form::Form;
@@ -34,7 +34,7 @@ pub struct Forms<S> {
     ghost few: { vec_len list ≤ 16 },
     // so that adding a form never wants memory
     ghost room: { 16 ≤ vec_capacity list },
-    ghost staged: { forms_on stage.bells list.items ≡ true },
+    ghost staged: { FormsOn stage.bells list.items },
 }
 
 impl<S> Forms<S> {
@@ -48,7 +48,7 @@ impl<S> Forms<S> {
     pub fn all(&self) -> &[Form]
         ensures items { result.now ≡ self.now.list.items }
         ensures few { length result.now ≤ 16 }
-        ensures staged { forms_on self.now.stage.bells result.now ≡ true }
+        ensures staged { FormsOn self.now.stage.bells result.now }
     {
         self.list.as_slice()
     }

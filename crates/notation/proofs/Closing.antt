@@ -1,76 +1,75 @@
 -- A block that is whole: doubled if it says so, and held to the limit.
-use Rattle.std.proofs.Common.{◌≡◌, ℕ, ◌≤◌, Bool, true, false, cond, ltb, List, [], ◌∷◌, ◌++◌, map, reverse, length, drop, sym, refl, ap, ◌∙◌, arith}
-use mathlib.Core.List.{reverse_aux}
-use Rattle.notation.proofs.Drafting.{mirrored}
+use Rattle.std.proofs.Common.{◌≡◌, ℕ, ◌+◌, ◌<◌, ◌≤◌, Bool, true, false, cond, ltb, List, [], ◌∷◌, ◌++◌, map, length, drop, Some, None, Option, Ok, MatchOption, sym, refl, ap, ◌∙◌, subst, arith}
+use Rattle.notation.proofs.Drafting.{listed_long, map_mirrored}
 use Rattle.notation.specs.Changes.{ascending, can_ring, made}
-use Rattle.notation.specs.Drafts.{Holding, is_amp}
+use Rattle.notation.specs.Drafts.{Drafted, Holds, Whole, is_amp, listed, mirrored}
 use Rattle.notation.specs.Grammar.{Sign, doubled}
 use Rattle.notation.specs.Reading.{State, goes, halts, fresh, crossed, add, all_changes, close}
+use Rattle.notation.specs.Written.{Written}
+use Rattle.notation.specs.declared.change.Change.{Change}
+use Rattle.notation.specs.declared.changes.Changes.{Changes}
+use Rattle.notation.specs.declared.draft.Draft.{Draft}
 use Rattle.notation.specs.declared.fault.Fault.{Fault}
 use Rattle.notation.specs.declared.fault.Fault.TheVariants.{Many, Places, Unrung}
-use Rattle.std.proofs.lemmas.List.{append_assoc, drop-map, length-map, map-append, map_push}
-use Rattle.std.proofs.lemmas.Bool.{both_ways, cond-false, cond-true, le-ltb, lt-ltb}
+use Rattle.std.specs.Option.{ok_or}
+use Rattle.std.proofs.lemmas.List.{append_assoc, drop_at, length-append, length-map, map-append, map_push}
+use Rattle.std.proofs.lemmas.Bool.{both_ways, cond-false, cond-true, le-ltb}
 
-map_reverse_aux : {X Y : Type 0} (f : X → Y) (xs ys : List X) → map f (reverse_aux xs ys) ≡ reverse_aux (map f xs) (map f ys)
-map_reverse_aux f [] ys = refl
-map_reverse_aux f (x ∷ xs) ys = map_reverse_aux f xs (x ∷ ys)
-
--- the mirrored changes of a block are the changes of the mirrored block
-map_mirrored : (f : List ℕ → List Bool) (bs : List (List ℕ)) → map f (drop 1 (reverse bs)) ≡ mirrored (map f bs)
-map_mirrored f bs = sym (drop-map f 1 (reverse bs)) ∙ ap (drop 1) (map_reverse_aux f bs [])
-
-doubled_amp : (s : Sign) (bs : List (List ℕ)) → is_amp s ≡ true → doubled s bs ≡ bs ++ drop 1 (reverse bs)
+doubled_amp : (s : Sign) (bs : List (List ℕ)) → is_amp s ≡ true → doubled s bs ≡ bs ++ mirrored bs
 doubled_amp Sign.none bs e = absurd (both_ways false refl e)
 doubled_amp Sign.amp bs e = refl
 doubled_amp Sign.plus bs e = absurd (both_ways false refl e)
 
-doubled_not : (s : Sign) (bs : List (List ℕ)) → is_amp s ≡ false → doubled s bs ≡ bs
-doubled_not Sign.none bs e = refl
-doubled_not Sign.amp bs e = absurd (both_ways true e refl)
-doubled_not Sign.plus bs e = refl
-
 module _ (n : ℕ) (st : State) where
-  pub split_changes : map (made n) (st.whole ++ st.block) ≡ map (made n) st.whole ++ map (made n) st.block
-  split_changes = map-append (made n) st.whole st.block
+  -- a block with `&` is followed by its changes except the last, backwards
+  pub twice : (cs : List (List Bool)) (b : ℕ) → cs ≡ map (made n) (st.whole ++ st.block) → b ≡ length st.whole → is_amp st.sign ≡ true
+      → cs ++ mirrored (drop b cs) ≡ map (made n) (all_changes st)
+  twice cs b h at e =
+      let ws = map (made n) st.whole in
+      let bs = map (made n) st.block in
+      let parts : cs ≡ ws ++ bs = h ∙ map-append (made n) st.whole st.block in
+      let behind : drop b cs ≡ bs = ap (drop b) parts ∙ drop_at ws bs b (length-map st.whole (made n) ∙ sym at) in
+      (λ i. parts i ++ mirrored (behind i)) ∙ append_assoc ws bs (mirrored bs)
+      ∙ sym (ap (λ xs. map (made n) (st.whole ++ xs)) (doubled_amp st.sign st.block e) ∙ map-append (made n) st.whole (st.block ++ mirrored st.block)
+      ∙ ap (λ xs. ws ++ xs) (map-append (made n) st.block (mirrored st.block) ∙ ap (λ xs. bs ++ xs) (map_mirrored (made n) st.block)))
 
-  pub all_doubled : is_amp st.sign ≡ true → map (made n) st.whole ++ (map (made n) st.block ++ mirrored (map (made n) st.block)) ≡ map (made n) (all_changes st)
-  all_doubled e =
-      sym (ap (λ bs. map (made n) (st.whole ++ bs)) (doubled_amp st.sign st.block e) ∙ map-append (made n) st.whole (st.block ++ drop 1 (reverse st.block))
-      ∙ ap (λ l. map (made n) st.whole ++ l) (map-append (made n) st.block (drop 1 (reverse st.block)) ∙ ap (λ l. map (made n) st.block ++ l) (map_mirrored (made n) st.block)))
+  -- changes that are listed are at most 64
+  pub whole_listed : (c : Changes) → listed c ≡ map (made n) (all_changes st) → Whole n st (Ok c)
+  whole_listed c h = (omega (arith, ap length h, listed_long c, length-map (all_changes st) (made n), c.few), h)
 
-  pub all_plain : is_amp st.sign ≡ false → map (made n) (st.whole ++ st.block) ≡ map (made n) (all_changes st)
-  all_plain e = ap (λ bs. map (made n) (st.whole ++ bs)) (sym (doubled_not st.sign st.block e))
+  -- a block with `&` has its changes doubled, or they are too many
+  pub whole_twice : (c : Changes) (b : ℕ) (o : Option Changes) (f : Fault) → listed c ≡ map (made n) (st.whole ++ st.block) → b ≡ length st.whole → is_amp st.sign ≡ true → f ≡ Many st.from
+      → MatchOption o (64 < c.count + length (mirrored (drop b (listed c)))) (λ all. listed all ≡ listed c ++ mirrored (drop b (listed c))) → Whole n st (ok_or o f)
+  whole_twice c b None f h at e is m =
+      (omega (arith, m, ap length (twice (listed c) b h at e), length-append (listed c) (mirrored (drop b (listed c))), listed_long c, length-map (all_changes st) (made n)), is)
+  whole_twice c b (Some all) f h at e is m = whole_listed all (m ∙ twice (listed c) b h at e)
 
   -- the block is whole, and nothing of the next is read
   abbrev pub closed : ℕ → State
   closed j = record { whole = all_changes st; from = j; sign = Sign.none; block = []; seen = fresh }
 
-  pub close_many : (hand : List (List Bool)) (j : ℕ) → Holding true hand (map (made n) (all_changes st)) → close j st ≡ halts (Many st.from)
-  close_many hand j h =
-      let long = h.past refl in
-      cond-true (ltb 64 (length (all_changes st))) (halts (Many st.from)) (goes (closed j)) (lt-ltb 64 (length (all_changes st)) (omega (arith, length-map (all_changes st) (made n))))
-
-  pub close_goes : (hand : List (List Bool)) (j : ℕ) → length hand ≤ 64 → Holding false hand (map (made n) (all_changes st)) → close j st ≡ goes (closed j)
-  close_goes hand j few h =
-      let same = ap length (h.kept refl) in
-      cond-false (ltb 64 (length (all_changes st))) (halts (Many st.from)) (goes (closed j)) (le-ltb 64 (length (all_changes st)) (omega (arith, length-map (all_changes st) (made n))))
-
-  goes_or_halts : (b : Bool) (f : Fault) (s s' : State) → cond b (halts f) (goes s) ≡ goes s' → s ≡ s'
-  goes_or_halts true f s s' e = absurd (let z : ◌≡◌ {A = ℕ} 0 1 = cc in omega arith)
-  goes_or_halts false f s s' e = cc
-
-  -- a block that closes leaves all its changes, and nothing of a next block
-  pub close_leaves : (j : ℕ) (s : State) → close j st ≡ goes s → closed j ≡ s
-  close_leaves j s e = goes_or_halts (ltb 64 (length (all_changes st))) (Many st.from) (closed j) s e
+  pub close_goes : (j : ℕ) → length (all_changes st) ≤ 64 → close j st ≡ goes (closed j)
+  close_goes j few = cond-false (ltb 64 (length (all_changes st))) (halts (Many st.from)) (goes (closed j)) (le-ltb 64 (length (all_changes st)) few)
 
   -- the state with one change more
   abbrev pub with_change : List ℕ → State
   with_change ws = record { whole = st.whole; from = st.from; sign = st.sign; block = st.block ++ ws ∷ []; seen = crossed }
 
-  pub add_goes : (p : ℕ) (ws : List ℕ) → ascending n ws ≡ true → can_ring (made n ws) ≡ true → add n p ws st ≡ goes (with_change ws)
-  add_goes p ws a r =
-      cond-true (ascending n ws) (cond (can_ring (made n ws)) (goes (with_change ws)) (halts (Unrung p))) (halts (Places p)) a
-      ∙ cond-true (can_ring (made n ws)) (goes (with_change ws)) (halts (Unrung p)) r
+  -- a change that is written goes in
+  pub add_goes : (c : Change) (p : ℕ) (ws : List ℕ) → Written n ws p (Ok c) → add n p ws st ≡ goes (with_change ws)
+  add_goes c p ws w =
+      cond-true (ascending n ws) (cond (can_ring (made n ws)) (goes (with_change ws)) (halts (Unrung p))) (halts (Places p)) w.0
+      ∙ cond-true (can_ring (made n ws)) (goes (with_change ws)) (halts (Unrung p)) (subst (λ m. can_ring m ≡ true) w.1 c.rings)
 
-  pub with_change_made : (ws : List ℕ) → map (made n) (st.whole ++ st.block) ++ made n ws ∷ [] ≡ map (made n) (st.whole ++ (st.block ++ ws ∷ []))
-  with_change_made ws = sym (ap (map (made n)) (sym (append_assoc st.whole st.block (ws ∷ []))) ∙ map_push (made n) (st.whole ++ st.block) ws)
+  -- the draft is as it was, but for one change more in hand
+  pub grown : (c : Change) (p : ℕ) (ws : List ℕ) (d e : Draft) → Written n ws p (Ok c) → Drafted n d st
+      → e.stage ≡ d.stage → e.block ≡ d.block → e.from ≡ d.from → e.doubles ≡ d.doubles → Holds e.changes (map (made n) (st.whole ++ st.block) ++ c.made ∷ []) → Drafted n e (with_change ws)
+  grown c p ws d e w r stage block from doubles holds =
+      let more = ap (λ m. map (made n) (st.whole ++ st.block) ++ m ∷ []) w.1 ∙ sym (ap (map (made n)) (sym (append_assoc st.whole st.block (ws ∷ []))) ∙ map_push (made n) (st.whole ++ st.block) ws) in
+      record {
+        stage = ap (λ s. s.bells) stage ∙ r.stage;
+        holds = subst (Holds e.changes) more holds;
+        block = block ∙ r.block;
+        from = from ∙ r.from;
+        doubles = doubles ∙ r.doubles;
+      }

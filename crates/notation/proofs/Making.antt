@@ -1,42 +1,24 @@
 -- The places made in a change, one written place after another, and what is left of a change to read.
-use Rattle.std.proofs.Common.{◌≡◌, ℕ, ◌+◌, ◌-◌, ◌%◌, ◌<◌, ◌≤◌, Bool, true, false, cond, ◌&&◌, ◌||◌, eqb, ltb, leb, ◌⊎◌, List, [], ◌∷◌, ◌++◌, length, get_or, take, drop, set, sym, refl, ap, ◌∙◌, ⊎_elim, arith}
+use Rattle.std.proofs.Common.{◌≡◌, ℕ, ◌+◌, ◌-◌, ◌%◌, ◌<◌, ◌≤◌, Bool, true, false, cond, ◌&&◌, ◌||◌, Some, None, Option, eqb, ltb, leb, ◌⊎◌, List, [], ◌∷◌, ◌++◌, length, get_or, take, drop, set, sym, refl, ap, ◌∙◌, ⊎_elim, arith}
 use Rattle.notation.specs.Changes.{ascend, last, has, making, made, crosses}
-use Rattle.std.proofs.lemmas.List.FromFn.{length-map-range_with_len, get_or-map-range_with_len}
-use Rattle.std.proofs.lemmas.List.{append_assoc, append-nil, drop_all, drop_more, ext_get_or, get_or-set_other, get_or-set_same, length-set, take_all, take_more}
-use Rattle.std.proofs.lemmas.Bool.{cases_eq, eq-eqb, ne_eqb, lt-ltb, le-ltb, le-leb, lt-leb, or_left, and_left, and_right}
-use Rattle.std.proofs.lemmas.Bool.Decides.{nat_tests}
+use Rattle.std.proofs.lemmas.List.FromFn.{fill_by_all, get_or-map-range_with_len}
+use Rattle.std.proofs.lemmas.List.{append_assoc, append-nil, drop_all, drop_more, get_or-set_other, get_or-set_same, length-set, take_all, take_more, take_rest}
+use Rattle.std.proofs.lemmas.Bool.{cases_eq, eq-eqb, ne_eqb, lt-ltb, le-ltb, le-leb, lt-leb, and_left, and_right}
+use Rattle.std.proofs.lemmas.Option.{same_Some}
+use Rattle.std.specs.List.{slice_get}
+use Rattle.std.specs.Option.{option_or}
 
--- what a change says of the place at index i, which is place 1 + i of those counted
-making_at : (n : ℕ) (ps : List ℕ) (i : ℕ) → i < 12 → get_or (making n ps) i false ≡ (has (1 + i) ps || ltb n (1 + i))
-making_at n ps i l = get_or-map-range_with_len (λ p. has p ps || ltb n p) 1 12 i (1 + i) false l refl
-
--- a change has twelve places, as many as are counted
-making_long : (n : ℕ) (ps : List ℕ) → length (making n ps) ≡ 12
-making_long n ps = length-map-range_with_len (λ p. has p ps || ltb n p) 1 12
-
--- a list of twelve is the change if it says the same of each place, since lists with the same elements are equal
-making_from : (n : ℕ) (ps : List ℕ) (m : List Bool) → length m ≡ 12 → ((i : ℕ) → i < 12 → get_or m i false ≡ (has (1 + i) ps || ltb n (1 + i))) → m ≡ making n ps
-making_from n ps m l h = ext_get_or false m (making n ps) (l ∙ sym (making_long n ps)) (λ i k. h i (omega arith) ∙ sym (making_at n ps i (omega arith)))
-
-module _ (n p : ℕ) (ps qs : List ℕ) (lo : 1 ≤ p) (hi : p ≤ 12) (also : (q : ℕ) → has q qs ≡ (eqb q p || has q ps)) where
-  -- the place written is made, and it is among those of qs
-  written_here : (i : ℕ) → i < 12 → i ≡ p - 1 → get_or (set (making n ps) (p - 1) true) i false ≡ (has (1 + i) qs || ltb n (1 + i))
-  written_here i l e =
-      let made_now : get_or (set (making n ps) (p - 1) true) (p - 1) false ≡ true = get_or-set_same (making n ps) (p - 1) true false (omega (arith, making_long n ps)) in
-      let there : has (1 + i) qs ≡ true = also (1 + i) ∙ or_left (eqb (1 + i) p) (has (1 + i) ps) (eq-eqb (1 + i) p (omega arith)) in
-      ap (λ k. get_or (set (making n ps) (p - 1) true) k false) e ∙ (made_now ∙ sym (or_left (has (1 + i) qs) (ltb n (1 + i)) there))
-
-  -- any other place is as it was, and qs has it where ps has
-  written_elsewhere : (i : ℕ) → i < 12 → (i ≡ p - 1 → ⊥) → get_or (set (making n ps) (p - 1) true) i false ≡ (has (1 + i) qs || ltb n (1 + i))
-  written_elsewhere i l ne =
-      let not_here : (eqb (1 + i) p || has (1 + i) ps) ≡ has (1 + i) ps = rw (ne_eqb (1 + i) p (λ e. ne (omega arith))) in
-      get_or-set_other (making n ps) (p - 1) i true false ne ∙ (making_at n ps i l ∙ sym (ap (λ b. b || ltb n (1 + i)) (also (1 + i) ∙ not_here)))
-
-  -- one more place made: a change depends only on which places there are
-  making_set : set (making n ps) (p - 1) true ≡ making n qs
-  making_set =
-      making_from n qs (set (making n ps) (p - 1) true) (length-set (making n ps) (p - 1) true ∙ making_long n ps)
-      (λ i l. ⊎_elim (written_here i l) (written_elsewhere i l) (cases_eq i (p - 1)))
+-- one more place made: a change depends only on which places there are
+making_set : (n p : ℕ) (ps qs : List ℕ) → 1 ≤ p → p ≤ 12 → ((q : ℕ) → has q qs ≡ (eqb q p || has q ps)) → set (making n ps) (p - 1) true ≡ making n qs
+making_set n p ps qs lo hi also =
+    let m = making n ps in
+    fill_by_all (λ i. has (1 + i) qs || ltb n (1 + i)) (set m (p - 1) true) 12 false (length-set m (p - 1) true)
+    (λ i l.
+    let q = also (1 + i) in
+    ⊎_elim
+    (λ e. let here = eq-eqb (1 + i) p (omega arith) in ap (λ k. get_or (set m (p - 1) true) k false) e ∙ (get_or-set_same m (p - 1) true false (omega arith) ∙ rw (q, here) refl))
+    (λ ne. let other = ne_eqb (1 + i) p (λ e. ne (omega arith)) in get_or-set_other m (p - 1) i true false ne ∙ (get_or-map-range_with_len (λ q. has q ps || ltb n q) 1 12 i (1 + i) false l refl ∙ rw (q, other) refl))
+    (cases_eq i (p - 1)))
 
 -- the order of two tests does not matter, in each case of the two
 or_over : (a b c : Bool) → (a || (b || c)) ≡ (b || (a || c))
@@ -54,71 +36,54 @@ last_push : (a p : ℕ) (ps : List ℕ) → last a (ps ++ p ∷ []) ≡ p
 last_push a p [] = refl
 last_push a p (x ∷ ps) = last_push x p ps
 
--- the covers from index n up to k are made, and no other place
-abbrev pub Covered : ℕ → ℕ → List Bool → Type 0
-Covered n k m = (length m ≡ 12) × ((i : ℕ) → i < 12 → get_or m i false ≡ (leb n i && ltb i k))
-
--- one cover more: the place written is made, and any other is as it was
-pub covered_more : (n k : ℕ) (m : List Bool) → n ≤ k → k < 12 → Covered n k m → Covered n (k + 1) (set m k true)
-covered_more n k m h l c = (
-  length-set m k true ∙ c.0,
-  λ i b.
-      ⊎_elim (λ e. ap (λ j. get_or (set m k true) j false) e ∙ (get_or-set_same m k true false (omega (arith, c.0)) ∙ grind (arith, nat_tests)))
-      (λ ne. get_or-set_other m k i true false ne ∙ (c.1 i b ∙ grind (arith, nat_tests))) (cases_eq i k),
-)
-
--- with all covers made, the change is the one with no place written, since index i is above the stage if place 1 + i is
-pub covered_all : (n k : ℕ) (m : List Bool) → 12 ≤ k → Covered n k m → m ≡ making n []
-covered_all n k m h c = making_from n [] m c.0 (λ i l. c.1 i l ∙ grind (arith, nat_tests))
-
-module _ (m : List Bool) (p : ℕ) (crossed : Bool) (inside : p < length m) where
-  -- what is left begins with the place at p
-  here : (b : Bool) → get_or m p false ≡ b → drop p m ≡ b ∷ drop (p + 1) m
-  here b e = drop_more m p false inside ∙ ap (λ t. t ∷ drop (p + 1) m) e
-
-  -- a place made stays, and says nothing of those above
-  pub crosses_stay : get_or m p false ≡ true → crosses (drop p m) crossed ≡ crosses (drop (p + 1) m) crossed
-  unfolding crosses
-  crosses_stay e = ap (λ l. crosses l crossed) (here true e)
-
-  -- two places not made cross
-  pub crosses_both : p + 1 < length m → get_or m p false ≡ false → get_or m (p + 1) false ≡ false → crosses (drop p m) crossed ≡ crosses (drop (p + 2) m) true
-  unfolding crosses
-  crosses_both l e f =
-      let two : p + 1 + 1 ≡ p + 2 = omega arith in
-      let next : drop (p + 1) m ≡ false ∷ drop (p + 2) m = drop_more m (p + 1) false l ∙ (λ i. f i ∷ drop (two i) m) in
-      ap (λ l. crosses l crossed) (here false e ∙ ap (λ l. false ∷ l) next)
-
-  -- a place not made below one that is made is left over
-  pub crosses_apart : p + 1 < length m → get_or m p false ≡ false → get_or m (p + 1) false ≡ true → crosses (drop p m) crossed ≡ false
-  unfolding crosses
-  crosses_apart l e f =
-      let next : drop (p + 1) m ≡ true ∷ drop (p + 1 + 1) m = drop_more m (p + 1) false l ∙ ap (λ t. t ∷ drop (p + 1 + 1) m) f in
-      ap (λ l. crosses l crossed) (here false e ∙ ap (λ l. false ∷ l) next)
-
-  -- so is the highest place if it is not made, since nothing is left above it
-  pub crosses_alone : length m ≤ p + 1 → get_or m p false ≡ false → crosses (drop p m) crossed ≡ false
-  unfolding crosses
-  crosses_alone l e = ap (λ l. crosses l crossed) (here false e ∙ ap (λ l. false ∷ l) (drop_all (p + 1) m l))
-
--- at the end nothing is left to read, so it is known whether a pair has crossed
-pub crosses_end : (m : List Bool) (p : ℕ) (crossed : Bool) → length m ≤ p → crosses (drop p m) crossed ≡ crossed
+-- what is left to read of a change comes to, by how it begins: nothing is left
+pub crosses_none : (ms : List Bool) (c : Bool) → length ms < 1 → crosses ms c ≡ c
 unfolding crosses
-crosses_end m p crossed l = ap (λ l. crosses l crossed) (drop_all p m l)
+crosses_none [] c l = refl
+crosses_none (m ∷ ms) c l = absurd (omega arith)
 
--- where no place is written, none is made at the ends
-no_ends : (n : ℕ) (ws : List ℕ) (m : List Bool) → length ws ≤ 0 → m ≡ making n ws → m ≡ made n ws
-no_ends n [] m l is = is
-no_ends n (w ∷ ws) m l is = absurd (omega arith)
+-- a place made stays, and says nothing of those above
+pub crosses_stay : (ms : List Bool) (c d : Bool) → 1 ≤ length ms → get_or ms 0 d ≡ true → crosses ms c ≡ crosses (take (length ms - 1) (drop 1 ms)) c
+unfolding crosses
+crosses_stay [] c d l e = absurd (omega arith)
+crosses_stay (m ∷ ms) c d l e = ap (λ b. crosses (b ∷ ms) c) e ∙ ap (λ bs. crosses bs c) (sym (take_rest (m ∷ ms) 1))
 
--- the first i places written are made, the last of them is p, and the rest ascends above p if all do
-pub record Placing (n : ℕ) (ws : List ℕ) (i : ℕ) (m : List Bool) (p : ℕ) : Type 0 where
+-- two places not made cross
+pub crosses_both : (ms : List Bool) (c d : Bool) → 2 ≤ length ms → get_or ms 0 d ≡ false → get_or ms 1 d ≡ false → crosses ms c ≡ crosses (take (length ms - 2) (drop 2 ms)) true
+unfolding crosses
+crosses_both [] c d l e f = absurd (omega arith)
+crosses_both (m ∷ []) c d l e f = absurd (omega arith)
+crosses_both (m ∷ m' ∷ ms) c d l e f = (λ i. crosses (e i ∷ f i ∷ ms) c) ∙ ap (λ bs. crosses bs true) (sym (take_rest (m ∷ m' ∷ ms) 2))
+
+-- a place not made below one that is made is left over
+pub crosses_apart : (ms : List Bool) (c d : Bool) → 2 ≤ length ms → get_or ms 0 d ≡ false → get_or ms 1 d ≡ true → crosses ms c ≡ false
+unfolding crosses
+crosses_apart [] c d l e f = absurd (omega arith)
+crosses_apart (m ∷ []) c d l e f = absurd (omega arith)
+crosses_apart (m ∷ m' ∷ ms) c d l e f = λ i. crosses (e i ∷ f i ∷ ms) c
+
+-- so is the highest place if it is not made, since nothing is left above it
+pub crosses_alone : (ms : List Bool) (c d : Bool) → 1 ≤ length ms → length ms < 2 → get_or ms 0 d ≡ false → crosses ms c ≡ false
+unfolding crosses
+crosses_alone [] c d l h e = absurd (omega arith)
+crosses_alone (m ∷ []) c d l h e = ap (λ b. crosses (b ∷ []) c) e
+crosses_alone (m ∷ m' ∷ ms) c d l h e = absurd (omega arith)
+
+pub ruleset crossings = (crosses_none, crosses_stay, crosses_both, crosses_apart, crosses_alone)
+
+-- the first i places written are made; f is the first of them and p the last; and the rest ascends above p if all do
+pub record Placing (n : ℕ) (ws : List ℕ) (i : ℕ) (m : List Bool) (f : Option ℕ) (p : ℕ) : Type 0 where
   pub so_far : m ≡ making n (take i ws)
+  pub first : f ≡ slice_get (take i ws) 0
   pub latest : p ≡ last 0 (take i ws)
   pub rest : ascend n 0 ws ≡ ascend n p (drop i ws)
   pub within : p ≤ n
 
-module _ (n : ℕ) (ws : List ℕ) (i : ℕ) (m : List Bool) (p : ℕ) (r : Placing n ws i m p) where
+first_push : (ps : List ℕ) (p : ℕ) → option_or (slice_get ps 0) (Some p) ≡ slice_get (ps ++ p ∷ []) 0
+first_push [] p = refl
+first_push (x ∷ ps) p = refl
+
+module _ (n : ℕ) (ws : List ℕ) (i : ℕ) (m : List Bool) (f : Option ℕ) (p : ℕ) (r : Placing n ws i m f p) where
   module _ (w : ℕ) (inside : i < length ws) (next : get_or ws i 0 ≡ w) where
     -- the places so far, with the next one
     written_on : take (i + 1) ws ≡ take i ws ++ w ∷ []
@@ -129,12 +94,13 @@ module _ (n : ℕ) (ws : List ℕ) (i : ℕ) (m : List Bool) (p : ℕ) (r : Plac
     next_test = r.rest ∙ ap (ascend n p) (drop_more ws i 0 inside ∙ ap (λ x. x ∷ drop (i + 1) ws) next)
 
     -- one more place, above the last and on the stage: both its tests are true, and it is made and the last
-    pub placing_more : p < w → w ≤ n → n ≤ 12 → Placing n ws (i + 1) (set m (w - 1) true) w
+    pub placing_more : p < w → w ≤ n → n ≤ 12 → Placing n ws (i + 1) (set m (w - 1) true) (option_or f (Some w)) w
     placing_more above on top =
         record {
           so_far =
               ap (λ l. set l (w - 1) true) r.so_far
               ∙ making_set n w (take i ws) (take (i + 1) ws) (omega arith) (omega arith) (λ q. ap (has q) written_on ∙ has_push w (take i ws) q);
+          first = ap (λ o. option_or o (Some w)) r.first ∙ (first_push (take i ws) w ∙ sym (ap (λ l. slice_get l 0) written_on));
           latest = sym (ap (last 0) written_on ∙ last_push 0 w (take i ws));
           rest = next_test ∙ rw (lt-ltb p w above, le-leb w n on);
           within = on;
@@ -147,14 +113,15 @@ module _ (n : ℕ) (ws : List ℕ) (i : ℕ) (m : List Bool) (p : ℕ) (r : Plac
         (λ high. and_right (ltb p w) (leb w n && ascend n w (drop (i + 1) ws)) (and_left (leb w n) (ascend n w (drop (i + 1) ws)) (lt-leb w n high))) h
 
   -- after all places nothing is left, so all are made, and they ascend
-  placing_all : length ws ≤ i → (ascend n 0 ws ≡ true) × (m ≡ making n ws) × (p ≡ last 0 ws)
+  pub placing_all : length ws ≤ i → (ascend n 0 ws ≡ true) × (m ≡ making n ws) × (f ≡ slice_get ws 0) × (p ≡ last 0 ws)
   placing_all l =
       let all : take i ws ≡ ws = take_all i ws l in
-      (r.rest ∙ ap (ascend n p) (drop_all i ws l), r.so_far ∙ ap (making n) all, r.latest ∙ ap (last 0) all)
+      (r.rest ∙ ap (ascend n p) (drop_all i ws l), r.so_far ∙ ap (making n) all, r.first ∙ ap (λ x. slice_get x 0) all, r.latest ∙ ap (last 0) all)
 
-  -- so is the change, if no place is written
-  pub written_none : length ws ≤ i → length ws ≤ 0 → (ascend n 0 ws ≡ true) × (m ≡ made n ws)
-  written_none done l = let all = placing_all done in (all.0, no_ends n ws m l all.1)
+-- where no place is written, none is made at the ends
+pub no_ends : (n : ℕ) (ws : List ℕ) (m : List Bool) → None ≡ slice_get ws 0 → m ≡ making n ws → m ≡ made n ws
+no_ends n [] m e is = is
+no_ends n (w ∷ ws) m e is = cc
 
 module _ (n : ℕ) (low : 4 ≤ n) (high : n ≤ 12) where
   -- place 1 made, or not, is place 1 in front of the places, or not
@@ -168,19 +135,14 @@ module _ (n : ℕ) (low : 4 ≤ n) (high : n ≤ 12) where
   back_made false ws = ap (making n) (sym (append-nil ws))
 
   -- with the places at the two ends the change is made, since its places are those in front, those written and those behind
-  with_ends : (ws : List ℕ) (first p : ℕ) (m f b : List Bool) → 0 < length ws → get_or ws 0 0 ≡ first → p ≡ last 0 ws → m ≡ making n ws
+  pub with_ends : (ws : List ℕ) (first p : ℕ) (m f b : List Bool) → Some first ≡ slice_get ws 0 → p ≡ last 0 ws → m ≡ making n ws
       → f ≡ cond (eqb (first % 2) 0) (set m 0 true) m → b ≡ cond (eqb ((n - p) % 2) 1) (set f (n - 1) true) f → b ≡ made n ws
-  with_ends [] first p m f b l at_first at_last is front back = absurd (omega arith)
-  with_ends (w ∷ ws) first p m f b l at_first at_last is front back =
+  with_ends [] first p m f b at_first at_last is front back = cc
+  with_ends (w ∷ ws) first p m f b at_first at_last is front back =
       let even : Bool = eqb (w % 2) 0 in
       let odd : Bool = eqb ((n - last w ws) % 2) 1 in
       let fronted : List ℕ = cond even (1 ∷ []) [] ++ (w ∷ ws) in
-      let front_is : f ≡ making n fronted = front ∙ ((λ i. cond (eqb (sym at_first i % 2) 0) (set (is i) 0 true) (is i)) ∙ front_made even (w ∷ ws)) in
+      let begins : first ≡ w = same_Some first w at_first in
+      let front_is : f ≡ making n fronted = front ∙ ((λ i. cond (eqb (begins i % 2) 0) (set (is i) 0 true) (is i)) ∙ front_made even (w ∷ ws)) in
       back ∙ ((λ i. cond (eqb ((n - at_last i) % 2) 1) (set (front_is i) (n - 1) true) (front_is i))
       ∙ (back_made odd fronted ∙ ap (making n) (append_assoc (cond even (1 ∷ []) []) (w ∷ ws) (cond odd (n ∷ []) []))))
-
-  -- so it is after the loop
-  pub written_some : (ws : List ℕ) (i : ℕ) (m : List Bool) (p : ℕ) → Placing n ws i m p → length ws ≤ i → (first : ℕ) (f b : List Bool) → 0 < length ws → get_or ws 0 0 ≡ first
-      → f ≡ cond (eqb (first % 2) 0) (set m 0 true) m → b ≡ cond (eqb ((n - p) % 2) 1) (set f (n - 1) true) f → (ascend n 0 ws ≡ true) × (b ≡ made n ws)
-  written_some ws i m p r done first f b l at_first front back =
-      let all = placing_all n ws i m p r done in (all.0, with_ends ws first p m f b l at_first all.2 all.1 front back)

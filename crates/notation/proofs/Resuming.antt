@@ -1,5 +1,5 @@
 -- Reading token by token comes to the same as reading byte by byte.
-use Rattle.std.proofs.Common.{◌≡◌, ℕ, suc, ◌+◌, ◌-◌, ◌<◌, ◌≤◌, Bool, true, false, cond, eqb, ltb, ◌⊎◌, List, [], ◌∷◌, ◌++◌, map, length, get_or, take, drop, sym, refl, ap, ◌∙◌, subst, inl, inr, ⊎_elim, arith, take-append-drop}
+use Rattle.std.proofs.Common.{◌≡◌, ℕ, suc, ◌+◌, ◌-◌, ◌<◌, ◌≤◌, Bool, true, false, cond, eqb, ltb, ◌⊎◌, List, [], ◌∷◌, ◌++◌, map, length, get_or, take, drop, All, sym, refl, ap, ◌∙◌, subst, inl, inr, ⊎_elim, arith, take-append-drop}
 use Rattle.notation.specs.Changes.{ascending, can_ring, made}
 use Rattle.notation.specs.Drafts.{turn, runs, stepped, seen_behind, finished}
 use Rattle.notation.specs.Grammar.{Sign}
@@ -11,7 +11,7 @@ use Rattle.notation.specs.declared.fault.Fault.TheVariants.{Places, Unrung, Many
 use Rattle.notation.specs.declared.token.Token.{Token}
 use Rattle.notation.specs.declared.token.Token.TheVariants.{Run, Cross, Point, Comma, And, Plus, Other}
 use Rattle.rows.specs.Text.{named}
-use Rattle.std.proofs.lemmas.List.{append_assoc, append-nil, drop_all, drop-drop, drop_more, get_or-drop, get_or-take, length-drop, length-take-le}
+use Rattle.std.proofs.lemmas.List.{append_assoc, append-nil, drop_all, drop-drop, drop_more, get_or-drop, length-drop, length-take-le}
 use Rattle.std.proofs.lemmas.Bool.{cond-false, cond-true, le-ltb, lt-ltb}
 
 -- behind a whole run its change is in the block already
@@ -233,17 +233,15 @@ module _ (n : ℕ) (t : List ℕ) (j end : ℕ) (s : Seen) (st : State) where
       let whole : j + (end - j) ≡ end = omega arith in
       sym (take-append-drop (end - j) (drop j t)) ∙ ((λ i. sym e i ++ drop-drop (end - j) j t i) ∙ ap (λ k. ds ++ drop k t) whole)
 
-  run_token : (ds : List ℕ) (at : ℕ) → at ≡ j → j < end → end ≤ length t → ds ≡ take (end - j) (drop j t) → ((k : ℕ) → j ≤ k → k < end → 0 < named (get_or t k 0)) → (end ≡ length t) ⊎ (named (get_or t end 0) ≡ 0)
+  run_token : (ds : List ℕ) (at : ℕ) → at ≡ j → j < end → end ≤ length t → ds ≡ take (end - j) (drop j t) → All (λ b. 0 < named b) ds → (end ≡ length t) ⊎ (named (get_or t end 0) ≡ 0)
       → resume n j s (goes st) (drop j t) ≡ resume n end Ran (runs n at (map named ds) s st) (drop end t)
   run_token [] at e lo hi is bells stops = absurd (let z : 0 ≡ length (take (end - j) (drop j t)) = ap length is in omega (arith, length-take-le (end - j) (drop j t) (omega (arith, length-drop j t)), length-drop j t))
   run_token (d ∷ ds) at e lo hi is bells stops =
       let long : length (d ∷ ds) ≡ end - j = ap length is ∙ length-take-le (end - j) (drop j t) (omega (arith, length-drop j t)) in
       let upto : j + length (d ∷ ds) ≡ end = omega arith in
-      let named_all : (i : ℕ) → i < length (d ∷ ds) → 0 < named (get_or (d ∷ ds) i 0) = λ i l.
-      subst (λ x. 0 < named x) (sym (ap (λ l'. get_or l' i 0) is ∙ get_or-take (end - j) (drop j t) i 0 (omega arith) ∙ get_or-drop j t i 0)) (bells (j + i) (omega arith) (omega arith)) in
       let rest : (drop end t ≡ []) ⊎ (named (get_or (drop end t) 0 0) ≡ 0) =
       ⊎_elim (λ x. inl (drop_all end t (omega arith))) (λ x. inr (ap named (get_or-drop end t 0 0 ∙ ap (λ k. get_or t k 0) (let z : end + 0 ≡ end = omega arith in z)) ∙ x)) stops in
-      ap (resume n j s (goes st)) (digits_cut (d ∷ ds) lo hi is) ∙ resume_run n j s d ds st (drop end t) named_all rest
+      ap (resume n j s (goes st)) (digits_cut (d ∷ ds) lo hi is) ∙ resume_run n j s d ds st (drop end t) (λ i l. bells i 0 l) rest
       ∙ (λ i. resume n (upto i) Ran (runs n (sym e i) (map named (d ∷ ds)) s st) (drop end t))
 
   -- a token does to the reading what it does to the draft

@@ -1,15 +1,15 @@
 -- What the reader has in hand, and what each token does to it, in terms of the reading from the left.
-use Rattle.std.specs.Prelude.{◌≡◌, ℕ, ◌<◌, Bool, true, false, List, ◌++◌, map, length, take, Ok, Err, Result}
+use Rattle.std.specs.Prelude.{◌≡◌, ℕ, ◌<◌, ◌≤◌, Bool, true, false, List, ◌++◌, map, reverse, length, take, drop, Some, None, Option, Ok, Err, Result}
 use Rattle.notation.specs.Changes.{made}
 use Rattle.notation.specs.Grammar.{Sign}
-use Rattle.notation.specs.Reading.{Kind, cross, point, comma, sign, other, State, Step, goes, halts, Outcome, read, stopped, add, close, done, first, begin, behind_cross, behind_run, behind_point}
+use Rattle.notation.specs.Reading.{Kind, cross, point, comma, sign, other, State, Step, goes, halts, Outcome, read, stopped, add, all_changes, close, done, first, begin, behind_cross, behind_run, behind_point}
 use Rattle.notation.specs.declared.change.Change.{Change}
 use Rattle.notation.specs.declared.changes.Changes.{Changes}
 use Rattle.notation.specs.declared.draft.Draft.{Draft}
 use Rattle.notation.specs.declared.draft.Seen.{Seen}
 use Rattle.notation.specs.declared.draft.Seen.TheVariants.{Fresh, Signed, Crossed, Ran, Pointed}
 use Rattle.notation.specs.declared.fault.Fault.{Fault}
-use Rattle.notation.specs.declared.fault.Fault.TheVariants.{Byte, Early}
+use Rattle.notation.specs.declared.fault.Fault.TheVariants.{Byte, Early, Many}
 use Rattle.notation.specs.declared.token.Token.{Token}
 use Rattle.notation.specs.declared.token.Token.TheVariants.{Run, Cross, Point, Comma, And, Plus, Other}
 use Rattle.rows.specs.Text.{named}
@@ -18,25 +18,32 @@ use Rattle.rows.specs.Text.{named}
 abbrev pub listed : Changes → List (List Bool)
 listed c = map (λ (x : Change). x.made) (take c.count c.list)
 
--- these changes are in hand, or there are more than 64
-pub record Holding (over : Bool) (hand cs : List (List Bool)) : Type 0 where
-  pub kept : over ≡ false → hand ≡ cs
-  pub past : over ≡ true → 64 < length cs
+-- the part of a doubled block that is added: its changes except the last, backwards
+abbrev pub mirrored : {X : Type 0} → List X → List X
+mirrored xs = drop 1 (reverse xs)
 
-abbrev pub Holds : Draft → List (List Bool) → Type 0
-Holds d cs = Holding d.over (listed d.changes) cs
+-- these changes are in hand, or there are more than 64
+abbrev pub Holds : Option Changes → List (List Bool) → Type 0
+Holds None cs = 64 < length cs
+Holds (Some c) cs = listed c ≡ cs
 
 abbrev pub is_amp : Sign → Bool
 is_amp Sign.none = false
 is_amp Sign.amp = true
 is_amp Sign.plus = false
 
--- a draft stands for a state of the reading; what was seen last it says by its own word
+-- a draft on n bells stands for a state of the reading; what was seen last it says by its own word
 pub record Drafted (n : ℕ) (d : Draft) (st : State) : Type 0 where
-  pub holds : Holds d (map (made n) (st.whole ++ st.block))
-  pub block : d.over ≡ false → d.block ≡ length st.whole
+  pub stage : d.stage.bells ≡ n
+  pub holds : Holds d.changes (map (made n) (st.whole ++ st.block))
+  pub block : d.block ≡ length st.whole
   pub from : d.from ≡ st.from
   pub doubles : d.doubles ≡ is_amp st.sign
+
+-- all changes of a state with its block whole, or that they are more than 64
+abbrev pub Whole : ℕ → State → Result Changes Fault → Type 0
+Whole n st (Ok c) = (length (all_changes st) ≤ 64) × (listed c ≡ map (made n) (all_changes st))
+Whole n st (Err f) = (64 < length (all_changes st)) × (f ≡ Many st.from)
 
 -- the state after a step is in hand, or its fault was answered
 abbrev pub Steps : ℕ → Step → Result Unit Fault → Draft → Type 0

@@ -1,5 +1,5 @@
 -- The next token of a text.
-use Rattle.std.specs.Prelude.{◌≡◌, ℕ, ◌+◌, ◌<◌, ◌≤◌, ◌⊎◌, List, length, Some, None, Option, slice_index, slice_range}
+use Rattle.std.specs.Prelude.{◌≡◌, ℕ, ◌+◌, ◌<◌, ◌≤◌, ◌⊎◌, List, length, Some, None, Option, All, slice_index, slice_range}
 use Rattle.notation.specs.Grammar.{Sign}
 use Rattle.notation.specs.Reading.{Kind, kind, cross, point, comma, sign, other}
 use Rattle.notation.specs.declared.token.Token.{Token}
@@ -14,7 +14,7 @@ Single t j at end k = (at ≡ j) × (j < length t) × (kind (slice_index t j) �
 abbrev pub TokenAt : List ℕ → ℕ → ℕ → Token → Type 0
 TokenAt t j end (Run digits at) =
     (at ≡ j) × (j < end) × (end ≤ length t) × (digits.now ≡ slice_range t j end)
-    × ((k : ℕ) → j ≤ k → k < end → 0 < named (slice_index t k)) × ((end ≡ length t) ⊎ (named (slice_index t end) ≡ 0))
+    × All (λ b. 0 < named b) digits.now × ((end ≡ length t) ⊎ (named (slice_index t end) ≡ 0))
 TokenAt t j end (Cross at) = Single t j at end cross
 TokenAt t j end (Point at) = Single t j at end point
 TokenAt t j end (Comma at) = Single t j at end comma

@@ -12,10 +12,9 @@ pub fn read(stage: Stage, text: &[u8]) -> Result<Changes, Fault>
     ensures means { Means stage.bells text.now result }
     ensures only { Only stage.bells text.now result }
 {
-    let mut tokens = Tokens { text, at: 0 };
-    let mut draft = Draft::new();
-    while let Some(token) = tokens.next() {
-        draft.take(stage, token)?;
+    let mut draft = Draft::new(stage);
+    for token in Tokens::of(text) {
+        draft.take(token)?;
     }
     draft.finish(text.len())
 }

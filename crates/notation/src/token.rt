@@ -1,5 +1,7 @@
 // The tokens of a notation, each with the position of its first byte.
-ghost use Rattle.std.specs.Prelude.{◌≡◌, ℕ, ◌<◌, ◌≤◌, length, slice_index};
+ghost use Rattle.std.specs.Prelude.{◌≡◌, ℕ, ◌-◌, ◌<◌, ◌≤◌, length, take, All, slice_index};
+ghost use Rattle.std.specs.Iterator.{at_most};
+ghost use Rattle.notation.specs.Drafts.{position};
 ghost use Rattle.notation.specs.Tokens.{Next};
 ghost use Rattle.rows.specs.Text.{named};
 
@@ -18,6 +20,33 @@ pub enum Token<'a> {
     Other { at: usize },
 }
 
+impl<'a> Token<'a> {
+    // The position of its first byte.
+    pub fn at(&self) -> usize
+        ensures { result ≡ position self.now }
+    {
+        match self {
+            Token::Run { at, .. }
+            | Token::Cross { at }
+            | Token::Point { at }
+            | Token::Comma { at }
+            | Token::And { at }
+            | Token::Plus { at }
+            | Token::Other { at } => *at,
+        }
+    }
+}
+
+// The bell characters that a text begins with.
+fn run(text: &[u8]) -> &[u8]
+    ensures front { result.now ≡ take (length result.now) text.now }
+    ensures bells { All (λ b. 0 < named b) result.now }
+    ensures stops { named (slice_index text.now (length result.now)) ≡ 0 }
+{
+    let end = text.iter().position(|byte| bell_named(*byte).is_none());
+    &text[..end.unwrap_or(text.len())]
+}
+
 #[derive(Clone, Copy)]
 pub struct Tokens<'a> {
     pub text: &'a [u8],
@@ -25,48 +54,40 @@ pub struct Tokens<'a> {
 }
 
 impl<'a> Tokens<'a> {
-    // Where the run of bell characters from this byte on ends.
-    fn run_end(&self, at: usize) -> usize
-        requires { at ≤ length self.now.text.now }
-        ensures within { (at ≤ result) × (result ≤ length self.now.text.now) }
-        ensures bells { (k : ℕ) → at ≤ k → k < result → 0 < named (slice_index self.now.text.now k) }
-        ensures stops { result < length self.now.text.now → named (slice_index self.now.text.now result) ≡ 0 }
+    // The tokens of this text.
+    pub fn of(text: &'a [u8]) -> Tokens<'a>
+        ensures text { result.text.now ≡ text.now }
+        ensures at { result.at ≡ 0 }
     {
-        let mut end = at;
-        while end < self.text.len() && bell_named(self.text[end]) > 0 {
-            end += 1;
-        }
-        end
+        Tokens { text, at: 0 }
     }
+}
+
+impl<'a> Iterator for Tokens<'a> {
+    type Item = Token<'a>;
+
+    ghost next_gives = { λ s r t. (t.text.now ≡ s.text.now) × Next s.text.now s.at t.at r };
+
+    ghost remaining = { λ s. at_most (length s.text.now - s.at) };
 
     // The next token, or none at the end of the text.
-    pub fn next(&mut self) -> Option<Token<'a>>
-        ensures text { self.new.text.now ≡ self.old.text.now }
-        ensures token { Next self.old.text.now self.old.at self.new.at result }
-    {
-        let text = self.text;
+    fn next(&mut self) -> Option<Token<'a>> {
         let at = self.at;
-        if at >= text.len() {
-            return None;
-        }
+        let byte = *self.text.get(at)?;
         self.at = at + 1;
-        match text[at] {
-            b'-' | b'x' => Some(Token::Cross { at }),
-            b'.' => Some(Token::Point { at }),
-            b',' => Some(Token::Comma { at }),
-            b'&' => Some(Token::And { at }),
-            b'+' => Some(Token::Plus { at }),
-            byte => {
-                if bell_named(byte) == 0 {
-                    return Some(Token::Other { at });
+        Some(match byte {
+            b'-' | b'x' => Token::Cross { at },
+            b'.' => Token::Point { at },
+            b',' => Token::Comma { at },
+            b'&' => Token::And { at },
+            b'+' => Token::Plus { at },
+            _ => match run(&self.text[at..]) {
+                [] => Token::Other { at },
+                digits => {
+                    self.at = at + digits.len();
+                    Token::Run { digits, at }
                 }
-                let end = self.run_end(at + 1);
-                self.at = end;
-                Some(Token::Run {
-                    digits: &text[at..end],
-                    at,
-                })
-            }
-        }
+            },
+        })
     }
 }

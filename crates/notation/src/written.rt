@@ -14,9 +14,7 @@ fn covers(stage: Stage) -> [bool; 12]
     ensures { result ≡ making stage.bells [] }
 {
     let mut made = [false; 12];
-    for place in stage.bells as usize..12 {
-        made[place] = true;
-    }
+    made[stage.bells as usize..].fill(true);
     made
 }
 
@@ -25,17 +23,19 @@ fn places_made(stage: Stage, digits: &[u8]) -> Option<[bool; 12]>
     ensures { MatchOption result (ascending stage.bells (map named digits.now) ≡ false) (λ m. (ascending stage.bells (map named digits.now) ≡ true) × (m ≡ made stage.bells (map named digits.now))) }
 {
     let mut made = covers(stage);
+    let mut first = None;
     let mut last = 0;
     for digit in digits {
-        let place = bell_named(*digit);
+        let place = bell_named(*digit)?;
         if place <= last || place > stage.bells {
             return None;
         }
         made[place as usize - 1] = true;
+        first = first.or(Some(place));
         last = place;
     }
-    if let Some(first) = digits.first() {
-        if bell_named(*first) % 2 == 0 {
+    if let Some(first) = first {
+        if first % 2 == 0 {
             made[0] = true;
         }
         if (stage.bells - last) % 2 == 1 {
@@ -46,22 +46,23 @@ fn places_made(stage: Stage, digits: &[u8]) -> Option<[bool; 12]>
 }
 
 // Whether no place is left over and some pair crosses.
+#[tactic(auto, using(crate::proofs::Making::crossings), unfolding(crate::specs::Changes::can_ring))]
 fn rings(made: &[bool; 12]) -> bool
     ensures { result ≡ can_ring made.now }
 {
     let mut crossed = false;
-    let mut p = 0;
-    while p < 12 {
-        if made[p] {
-            p += 1;
-        } else if p < 11 && !made[p + 1] {
-            crossed = true;
-            p += 2;
-        } else {
-            return false;
+    let mut rest = made.as_slice();
+    loop {
+        match rest {
+            [] => return crossed,
+            [true, above @ ..] => rest = above,
+            [false, false, above @ ..] => {
+                crossed = true;
+                rest = above;
+            }
+            [false, ..] => return false,
         }
     }
-    crossed
 }
 
 impl Change {
@@ -69,9 +70,7 @@ impl Change {
     pub fn written(stage: Stage, digits: &[u8], at: usize) -> Result<Change, Fault>
         ensures { Written stage.bells (map named digits.now) at result }
     {
-        let Some(made) = places_made(stage, digits) else {
-            return Err(Fault::Places(at));
-        };
+        let made = places_made(stage, digits).ok_or(Fault::Places(at))?;
         if !rings(&made) {
             return Err(Fault::Unrung(at));
         }

@@ -1,11 +1,10 @@
 -- What the tree is after one entry more.
-use Rattle.std.proofs.Common.{◌≡◌, ℕ, ◌+◌, ◌<◌, ◌≤◌, true, ◌⊎◌, List, [], ◌∷◌, ◌++◌, map, length, drop, set, Some, None, sym, refl, ap, ◌∙◌, inl, inr, arith}
+use Rattle.std.proofs.Common.{◌≡◌, ℕ, ◌+◌, ◌<◌, ◌≤◌, true, List, [], ◌∷◌, ◌++◌, map, length, drop, set, Some, None, Option, unwrap_or, sym, refl, ap, ◌∙◌, inl, inr, arith}
 use Rattle.registers.proofs.Reaching.{Found, found_more}
-use Rattle.registers.proofs.Using.{used_le, used_most}
 use Rattle.registers.proofs.Walking.{Upward, below_from, stop_none, stop_last}
-use Rattle.registers.proofs.Writing.{Alike, SameWays, stop_same, found_same, leaf_alike, leaf_ways, link_alike, link_here, link_ways, link_entries}
+use Rattle.registers.proofs.Writing.{Alike, SameWays, stop_same, found_same, leaf_same, same_alike, same_ways, link_alike, link_here, link_ways, link_entries}
 use Rattle.registers.specs.Lent.{most, used}
-use Rattle.registers.specs.Nodes.{entry_of, tree_entries, node_at, leaf, linked, beside, below, stop}
+use Rattle.registers.specs.Nodes.{entry_of, tree_entries, node_at, leaf, linked, beside, below, stop, Ends}
 use Rattle.registers.specs.declared.tree.node.Node.{Node}
 use Rattle.std.proofs.lemmas.List.{get_or-set_same, get_or-set_other, map_more, take-set, drop-set-lt, length-set}
 use Rattle.std.proofs.lemmas.Bool.{cases_eq}
@@ -50,15 +49,15 @@ module _ (ns : List Node) (n k m a : ℕ) (room : n < length ns) (few : n < most
 
   -- a node behind the entries leaves the tree a tree
   pub leaf_upward : Upward ls n
-  leaf_upward l w = omega (arith, up l w, (leaf_alike ns n (leaf k m a) l w).1)
+  leaf_upward l w = omega (arith, up l w, (same_alike ls ns n (leaf_same ns n (leaf k m a)) l w).1)
 
   pub leaf_found : Found ls n
-  leaf_found = found_same ls ns n (leaf_alike ns n (leaf k m a)) (leaf_ways ns n (leaf k m a)) found
+  leaf_found = found_same ls ns n (same_alike ls ns n (leaf_same ns n (leaf k m a))) (same_ways ls ns n (leaf_same ns n (leaf k m a))) found
 
   -- the first entry has no node above it
   grown_first : n ≡ 0 → a ≡ 0 → Grown ns n k m ls
   grown_first z y =
-      let upward : Upward ls (n + 1) = grown_upward ls ns n k m a up (leaf_alike ns n (leaf k m a)) leaf_at (omega arith) in
+      let upward : Upward ls (n + 1) = grown_upward ls ns n k m a up (same_alike ls ns n (leaf_same ns n (leaf k m a))) leaf_at (omega arith) in
       let room' : n < length ls = rw length-set room in
       record {
         long = length-set ns n (leaf k m a);
@@ -77,9 +76,9 @@ module _ (ns : List Node) (n k m a : ℕ) (room : n < length ns) (few : n < most
       let room' : n < length ls = rw length-set room in
       let room'' : n < length ks = rw length-set room' in
       let le : n ≤ length ls = omega arith in
-      let same : (node_at ls a).code ≡ (node_at ns a).code = (leaf_alike ns n x a w).0 in
+      let same : (node_at ls a).code ≡ (node_at ns a).code = (same_alike ls ns n (leaf_same ns n x) a w).0 in
       let other' : (node_at ls a).code ≡ k → ⊥ = λ e. other (sym same ∙ e) in
-      let at' : a ≡ stop ls n k n 0 = at ∙ sym (stop_same ls ns n k (leaf_alike ns n x) (leaf_ways ns n x) n 0 p) in
+      let at' : a ≡ stop ls n k n 0 = at ∙ sym (stop_same ls ns n k (same_alike ls ns n (leaf_same ns n x)) (same_ways ls ns n (leaf_same ns n x)) n 0 p) in
       let none : below ls n a k ≡ None = elim (stop_last ls n k leaf_upward n 0 p (omega arith)) [
         | inl e ↦ absurd (other' (ap (λ i. (node_at ls i).code) at' ∙ e))
         | inr e ↦ ap (λ i. below ls n i k) at' ∙ e
@@ -106,15 +105,14 @@ module _ (ns : List Node) (n k m a : ℕ) (room : n < length ns) (few : n < most
       }
 
 -- the nodes after one entry more: a leaf behind the others and, but for the first, a link to it
-abbrev pub Hung : List Node → ℕ → ℕ → ℕ → ℕ → List Node → Type 0
-Hung ns n k m a ms = ((0 < n) × (ms ≡ set (set ns n (leaf k m a)) a (linked (node_at (set ns n (leaf k m a)) a) k n))) ⊎ ((n ≡ 0) × (ms ≡ set ns n (leaf k m a)))
+abbrev pub joined : List Node → ℕ → ℕ → Option ℕ → List Node
+joined ls k n None = ls
+joined ls k n (Some a) = set ls a (linked (node_at ls a) k n)
+
+abbrev pub hung : List Node → ℕ → ℕ → ℕ → Option ℕ → List Node
+hung ns n k m o = joined (set ns n (leaf k m (unwrap_or o 0))) k n o
 
 -- both ways, it is one entry more
-pub grown : (ns : List Node) (n k m a : ℕ) (ms : List Node) → n < used (length ns) → Upward ns n → Found ns n → a ≡ stop ns n k n 0 → (0 < n → a < n) → (0 < n → (node_at ns a).code ≡ k → ⊥) → Hung ns n k m a ms → Grown ns n k m ms
-grown ns n k m a ms h up found at within other hung =
-    let few : n < most = omega (arith, used_most (length ns)) in
-    let room : n < length ns = omega (arith, used_le (length ns)) in
-    elim hung [
-      | inl e ↦ rw e.1 (grown_linked ns n k m a room few up found (within e.0) at (other e.0))
-      | inr e ↦ rw e.1 (grown_first ns n k m a room few up found e.0 (at ∙ stop_none ns n k e.0))
-    ]
+pub grown : (ns : List Node) (n k m : ℕ) (o : Option ℕ) → n < used (length ns) → Upward ns n → Found ns n → Ends ns n k o → Grown ns n k m (hung ns n k m o)
+grown ns n k m None h up found e = grown_first ns n k m 0 (omega arith) (omega arith) up found e refl
+grown ns n k m (Some a) h up found e = grown_linked ns n k m a (omega arith) (omega arith) up found e.0 e.1 e.2

@@ -1,12 +1,11 @@
 pub mod Among
 pub mod Entries
-pub mod Freeing
 pub mod Hanging
 pub mod Holding
 pub mod Reaching
 pub mod Settling
+pub mod Tables
 pub mod Trails
 pub mod Trials
-pub mod Using
 pub mod Walking
 pub mod Writing

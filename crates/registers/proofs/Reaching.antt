@@ -25,7 +25,7 @@ fewer_below ns n m i k l h e =
 -- with fewer entries, nothing is below where nothing was
 fewer_none : (ns : List Node) (n m i k : ℕ) → n ≤ m → below ns m i k ≡ None → (o : Option ℕ) → below ns n i k ≡ o → o ≡ None
 fewer_none ns n m i k h e None q = refl
-fewer_none ns n m i k h e (Some l) q = absurd (let p = more_below ns n m i k l h q in let z : ◌≡◌ {A = ℕ} 0 1 = cc in omega arith)
+fewer_none ns n m i k h e (Some l) q = let p = more_below ns n m i k l h q in cc
 
 -- a walk that ends at an entry that is left meets only such entries, since it does not turn back
 shorter : (ns : List Node) (n m k : ℕ) → n ≤ m → Upward ns m → (f i : ℕ) → stop ns m k f i < n → stop ns n k f i ≡ stop ns m k f i

@@ -1,5 +1,5 @@
 -- The trail of entries through the cells, from the last one back to the first.
-use Rattle.std.proofs.Common.{◌≡◌, ℕ, zero, suc, ◌<◌, ◌≤◌, true, ltb, List, [], ◌∷◌, ◌++◌, length, set, Some, sym, refl, ap, ◌∙◌, subst, ⊎_elim, arith}
+use Rattle.std.proofs.Common.{◌≡◌, ℕ, zero, suc, ◌<◌, ◌≤◌, true, List, [], ◌∷◌, ◌++◌, length, set, Some, sym, refl, ap, ◌∙◌, subst, ⊎_elim, arith}
 use Rattle.registers.proofs.Among.{among_here, among_before, among_which, marked_before, marked_here, once_push}
 use Rattle.registers.specs.Cells.{cell_at, is_taken, trail, chained, among}
 use Rattle.registers.specs.Entries.{Entry, NoCodeTwice, marked}
@@ -7,7 +7,8 @@ use Rattle.registers.specs.declared.rank.cell.Cell.{Cell}
 use Rattle.registers.specs.declared.rank.cell.Link.{Link}
 use Rattle.registers.specs.declared.rank.cell.Link.TheVariants.{Free, First, After}
 use Rattle.std.proofs.lemmas.List.{get_or-set_other, length_push}
-use Rattle.std.proofs.lemmas.Bool.{and_from, and_parts, cases_Bool, false≢true, lt-ltb, ltb-true, true≢false}
+use Rattle.std.proofs.lemmas.Bool.{cases_Bool, false≢true, true≢false}
+use Rattle.std.proofs.lemmas.Bool.Decides.{nat_tests}
 
 -- the entry that a cell holds
 abbrev pub held_at : List Cell → ℕ → Entry
@@ -16,14 +17,12 @@ held_at cs k = record { code = k; mark = (cell_at cs k).mark }
 -- a chain's first step: its code is below the reach, and the rest is a chain
 pub chain_step : (cs : List Cell) (r n k : ℕ) → chained cs r (suc n) (After k) ≡ true → (k < r) × (chained cs r n (cell_at cs k).link ≡ true)
 unfolding chained
-chain_step cs r n k h =
-    let p = and_parts (ltb k r) (chained cs r n (cell_at cs k).link) h in
-    (ltb-true k r p.0, p.1)
+chain_step cs r n k h = (grind (arith, nat_tests), grind (arith, nat_tests))
 
 -- and both make it a chain
 pub chain_more : (cs : List Cell) (r n k : ℕ) → k < r → chained cs r n (cell_at cs k).link ≡ true → chained cs r (suc n) (After k) ≡ true
 unfolding chained
-chain_more cs r n k l h = and_from (ltb k r) (chained cs r n (cell_at cs k).link) (lt-ltb k r l) h
+chain_more cs r n k l h = grind (arith, nat_tests)
 
 -- the trail ends with the entry of the code that the link names
 pub trail_step : (cs : List Cell) (n k : ℕ) → trail cs (suc n) (After k) ≡ trail cs n (cell_at cs k).link ++ held_at cs k ∷ []

@@ -1,8 +1,8 @@
 -- The walk down the tree: each step leads to a node entered later, so it ends, and more steps change nothing.
-use Rattle.std.proofs.Common.{◌≡◌, ℕ, zero, suc, ◌+◌, ◌<◌, ◌≤◌, true, cond, ◌&&◌, eqb, ltb, ◌⊎◌, List, Some, None, Option, sym, refl, ap, ◌∙◌, inl, inr, arith}
+use Rattle.std.proofs.Common.{◌≡◌, ℕ, zero, suc, ◌+◌, ◌<◌, ◌≤◌, true, cond, ltb, ◌⊎◌, List, Some, None, Option, sym, refl, ap, ◌∙◌, inl, inr, arith}
 use Rattle.registers.specs.Nodes.{node_at, beside, counts, leads, below, onward, stop}
 use Rattle.registers.specs.declared.tree.node.Node.{Node}
-use Rattle.std.proofs.lemmas.Bool.{and_parts, and_from, cases_Bool, cases_eq, eq-eqb, ne_eqb, eqb-true, ltb-true, lt-ltb}
+use Rattle.std.proofs.lemmas.Bool.{cases_eq, eq-eqb, ne_eqb}
 use Rattle.std.proofs.lemmas.Bool.Decides.{nat_tests}
 
 -- no node names one that was entered later
@@ -22,25 +22,18 @@ pub record Under (ns : List Node) (n i k l : ℕ) : Type 0 where
 
 -- a link that leads somewhere leads where it says, and counts
 leads_some : (ns : List Node) (n i k : ℕ) (o : Option ℕ) (l : ℕ) → leads ns n i k o ≡ Some l → (o ≡ Some l) × (counts ns n i k l ≡ true)
-leads_some ns n i k None l e = absurd (let z : ◌≡◌ {A = ℕ} 0 1 = cc in omega arith)
-leads_some ns n i k (Some m) l e =
-    elim (cases_Bool (counts ns n i k m)) [
-      | inl t ↦ (let s : Some m ≡ Some l = rw t at e in let q : m ≡ l = cc in (s, rw q at t))
-      | inr t ↦ absurd (let s : None ≡ Some l = rw t at e in let z : ◌≡◌ {A = ℕ} 0 1 = cc in omega arith)
-    ]
+leads_some ns n i k None l e = cc
+leads_some ns n i k (Some m) l e = (grind (arith, nat_tests), grind (arith, nat_tests))
 
 -- the parts of the test, taken apart and put together
 pub under : (ns : List Node) (n i k l : ℕ) → below ns n i k ≡ Some l → Under ns n i k l
 under ns n i k l e =
     let p = leads_some ns n i k (link_of ns i k) l e in
-    let q = and_parts (ltb l n) (eqb (node_at ns l).above i && beside (node_at ns i).code k (node_at ns l).code) p.1 in
-    let r = and_parts (eqb (node_at ns l).above i) (beside (node_at ns i).code k (node_at ns l).code) q.1 in
-    record { link = p.0; within = ltb-true l n q.0; names = eqb-true (node_at ns l).above i r.0; side = r.1 }
+    record { link = p.0; within = grind (arith, nat_tests); names = grind (arith, nat_tests); side = grind (arith, nat_tests) }
 
 pub below_from : (ns : List Node) (n i k l : ℕ) → Under ns n i k l → below ns n i k ≡ Some l
 below_from ns n i k l u =
-    let t : counts ns n i k l ≡ true = and_from (ltb l n) (eqb (node_at ns l).above i && beside (node_at ns i).code k (node_at ns l).code) (lt-ltb l n u.within)
-    (and_from (eqb (node_at ns l).above i) (beside (node_at ns i).code k (node_at ns l).code) (eq-eqb (node_at ns l).above i u.names) u.side) in
+    let t : counts ns n i k l ≡ true = grind (arith, nat_tests) in
     ap (leads ns n i k) u.link ∙ rw t
 
 -- a node is not below itself, since the sides are strict

@@ -3,10 +3,11 @@ use Rattle.std.proofs.Common.{◌≡◌, ℕ, zero, suc, ◌<◌, ◌≤◌, Boo
 use Rattle.registers.proofs.Reaching.{Found}
 use Rattle.registers.proofs.Walking.{link_of, under, below_from, held, ends, goes, step, stop_held, stop_ends, stop_goes}
 use Rattle.registers.specs.Entries.{Entry}
-use Rattle.registers.specs.Nodes.{entry_of, tree_entries, node_at, linked, below, stop}
+use Rattle.registers.specs.Nodes.{entry_of, tree_entries, node_at, linked, below, stop, Has, Ends}
 use Rattle.registers.specs.declared.tree.node.Node.{Node}
-use Rattle.std.proofs.lemmas.List.{get_or-set_same, get_or-set_other, get_or-map, map-set, set-get_or, take-map}
-use Rattle.std.proofs.lemmas.Bool.{true≢false, false≢true, cases_Bool, cases_eq}
+use Rattle.std.proofs.lemmas.List.{get_or-set_same, get_or-set_other, get_or-map, get_or-take, length-take-le, map-set, set-get_or, take-map}
+use Rattle.std.proofs.lemmas.Bool.{true≢false, false≢true, cases_eq}
+use Rattle.std.proofs.lemmas.Bool.Decides.{nat_tests}
 
 -- codes and the names of the nodes above are the same below n
 abbrev pub Alike : List Node → List Node → ℕ → Type 0
@@ -58,41 +59,56 @@ cases_same true false = inr true≢false
 cases_same false true = inr false≢true
 cases_same false false = inl refl
 
--- a node written behind the entries changes no walk
-module _ (ns : List Node) (n : ℕ) (x : Node) where
-  leaf_other : (i : ℕ) → i < n → node_at (set ns n x) i ≡ node_at ns i
-  leaf_other i w = get_or-set_other ns n i x _ (λ e. omega arith)
+-- where the first n nodes are the same, so is each walk among them
+module _ (ms ns : List Node) (n : ℕ) (same : (i : ℕ) → i < n → node_at ms i ≡ node_at ns i) where
+  pub same_alike : Alike ms ns n
+  same_alike i w = (ap (λ (y : Node). y.code) (same i w), ap (λ (y : Node). y.above) (same i w))
 
-  pub leaf_alike : Alike (set ns n x) ns n
-  leaf_alike i w = (ap (λ (y : Node). y.code) (leaf_other i w), ap (λ (y : Node). y.above) (leaf_other i w))
+  pub same_ways : SameWays ms ns n
+  same_ways i k w =
+      let link : link_of ms i k ≡ link_of ns i k = ap (λ (y : Node). cond (ltb k y.code) y.low y.high) (same i w) in
+      same_option (below ms n i k) (below ns n i k)
+      (λ l e. keeps ms ns n i k l same_alike w e (λ _ q. sym link ∙ q))
+      (λ l e. keeps ns ms n i k l (λ j v. (sym (same_alike j v).0, sym (same_alike j v).1)) w e (λ _ q. link ∙ q))
 
-  pub leaf_ways : SameWays (set ns n x) ns n
-  leaf_ways i k w =
-      let link : link_of (set ns n x) i k ≡ link_of ns i k = ap (λ (y : Node). cond (ltb k y.code) y.low y.high) (leaf_other i w) in
-      same_option (below (set ns n x) n i k) (below ns n i k)
-      (λ l e. keeps (set ns n x) ns n i k l leaf_alike w e (λ _ q. sym link ∙ q))
-      (λ l e. keeps ns (set ns n x) n i k l (λ j v. (sym (leaf_alike j v).0, sym (leaf_alike j v).1)) w e (λ _ q. link ∙ q))
+-- a node written behind the entries leaves them the same
+pub leaf_same : (ns : List Node) (n : ℕ) (x : Node) (i : ℕ) → i < n → node_at (set ns n x) i ≡ node_at ns i
+leaf_same ns n x i w = get_or-set_other ns n i x _ (λ e. omega arith)
+
+-- a search among the entries alone ends where one among all the nodes does
+module _ (ns : List Node) (n k : ℕ) (room : n ≤ length ns) where
+  front_same : (i : ℕ) → i < n → node_at (take n ns) i ≡ node_at ns i
+  front_same i w = get_or-take n ns i _ w
+
+  pub has_all : (m : ℕ) → Has (take n ns) (length (take n ns)) k m → Has ns n k m
+  has_all m h =
+      let w : h.0 < n = omega (arith, length-take-le n ns room, h.1) in
+      (h.0, w, sym (ap (λ (y : Node). y.code) (front_same h.0 w)) ∙ h.2, h.3 ∙ ap (λ (y : Node). y.mark) (front_same h.0 w))
+
+  pub ends_all : (o : Option ℕ) → Ends (take n ns) (length (take n ns)) k o → Ends ns n k o
+  ends_all None e = sym (length-take-le n ns room) ∙ e
+  ends_all (Some i) e =
+      let long = length-take-le n ns room in
+      let w : i < n = omega (arith, e.0) in
+      let p : 0 < n = omega arith in
+      let at : i ≡ stop (take n ns) n k n 0 = rw long at e.1 in
+      (w, at ∙ stop_same (take n ns) ns n k (same_alike (take n ns) ns n front_same) (same_ways (take n ns) ns n front_same) n 0 p, λ q. e.2 (ap (λ (y : Node). y.code) (front_same i w) ∙ q))
 
 -- a link changes neither the code nor the node above
 linked_same : (x : Node) (k to : ℕ) → ((linked x k to).code ≡ x.code) × ((linked x k to).above ≡ x.above)
-linked_same x k to = elim (cases_Bool (ltb k x.code)) [ inl e ↦ rw e (refl, refl) | inr e ↦ rw e (refl, refl) ]
+linked_same x k to = (grind (arith, nat_tests), grind (arith, nat_tests))
 
 -- nor the entry
 linked_entry : (x : Node) (k to : ℕ) → entry_of (linked x k to) ≡ entry_of x
-linked_entry x k to = elim (cases_Bool (ltb k x.code)) [ inl e ↦ rw e | inr e ↦ rw e ]
+linked_entry x k to = grind (arith, nat_tests)
 
 -- on the code's side, it is the link
 linked_here : (x : Node) (k to h : ℕ) → ltb h x.code ≡ ltb k x.code → cond (ltb h (linked x k to).code) (linked x k to).low (linked x k to).high ≡ Some to
-linked_here x k to h e =
-    rw ((linked_same x k to).0, e) (elim (cases_Bool (ltb k x.code)) [ inl q ↦ rw q | inr q ↦ rw q ])
+linked_here x k to h e = grind (arith, nat_tests)
 
 -- on the other side, the link is as it was
 linked_there : (x : Node) (k to h : ℕ) → (ltb h x.code ≡ ltb k x.code → ⊥) → cond (ltb h (linked x k to).code) (linked x k to).low (linked x k to).high ≡ cond (ltb h x.code) x.low x.high
-linked_there x k to h ne =
-    rw (linked_same x k to).0 (elim (cases_Bool (ltb k x.code)) [
-      | inl q ↦ elim (cases_Bool (ltb h x.code)) [ inl r ↦ absurd (ne (r ∙ sym q)) | inr r ↦ rw (q, r) ]
-      | inr q ↦ elim (cases_Bool (ltb h x.code)) [ inl r ↦ rw (q, r) | inr r ↦ absurd (ne (r ∙ sym q)) ]
-    ])
+linked_there x k to h ne = grind (arith, nat_tests)
 
 -- a link to a node behind the entries, where nothing was below on its side, changes no walk
 module _ (ns : List Node) (n a k : ℕ) (w : a < n) (room : n ≤ length ns) where
@@ -131,7 +147,7 @@ module _ (ns : List Node) (n a k : ℕ) (w : a < n) (room : n ≤ length ns) whe
   link_forth : (h l : ℕ) → l < n → link_of ms a h ≡ Some l → link_of ns a h ≡ Some l
   link_forth h l v q =
       elim (cases_same (ltb h (node_at ns a).code) (ltb k (node_at ns a).code)) [
-        | inl e ↦ absurd (let p = link_here h e in let z : n ≡ l = cc in omega arith)
+        | inl e ↦ let p = link_here h e in let z : n ≡ l = cc in absurd (omega arith)
         | inr ne ↦ sym (link_there h ne) ∙ q
       ]
 
@@ -139,7 +155,7 @@ module _ (ns : List Node) (n a k : ℕ) (w : a < n) (room : n ≤ length ns) whe
   link_back : (h l : ℕ) → below ns n a k ≡ None → below ns n a h ≡ Some l → link_of ns a h ≡ Some l → link_of ms a h ≡ Some l
   link_back h l o b q =
       elim (cases_same (ltb h (node_at ns a).code) (ltb k (node_at ns a).code)) [
-        | inl e ↦ absurd (let p = one_side h l e b in let z : ◌≡◌ {A = ℕ} 0 1 = cc in omega arith)
+        | inl e ↦ let p = one_side h l e b in cc
         | inr ne ↦ link_there h ne ∙ q
       ]
 

@@ -9,6 +9,16 @@ pub record Entry : Type 0 where
   pub code : ℕ
   pub mark : ℕ
 
+-- a register at one time: what its codes are below, how many entries it has room for, and its entries
+pub record Shelf : Type 0 where
+  pub reach : ℕ
+  pub capacity : ℕ
+  pub entries : List Entry
+
+-- the shelf with other entries
+abbrev pub with_entries : List Entry → Shelf → Shelf
+with_entries es s = record { reach = s.reach; capacity = s.capacity; entries = es }
+
 abbrev pub code_at : List Entry → ℕ → ℕ
 code_at es i = (slice_index_or es i (record { code = 0; mark = 0 })).code
 
@@ -29,23 +39,34 @@ abbrev pub held : Option ℕ → Result Entered RegisterFault → Result Entered
 held (Some m) r = Ok (Held m)
 held None r = r
 
-abbrev pub entering : ℕ → ℕ → List Entry → ℕ → Result Entered RegisterFault
-entering reach capacity es c = cond (nat_le reach c) (Err Reach) (held (marked c es) (room capacity es))
+abbrev pub entering : Shelf → ℕ → Result Entered RegisterFault
+entering s c = cond (nat_le s.reach c) (Err Reach) (held (marked c s.entries) (room s.capacity s.entries))
 
--- the list after that answer: only an added entry changes it
-abbrev pub entered : Result Entered RegisterFault → List Entry → Entry → List Entry
-entered (Ok Added) es e = es ++ e ∷ []
-entered (Ok (Held m)) es e = es
-entered (Err f) es e = es
+-- the entries after that answer: only an added entry changes them
+abbrev pub appended : Result Entered RegisterFault → Entry → List Entry → List Entry
+appended (Ok Added) e es = es ++ e ∷ []
+appended (Ok (Held m)) e es = es
+appended (Err f) e es = es
 
--- what taking back answers: the mark of the last entry
-abbrev pub taking : List Entry → Result ℕ RegisterFault
-taking [] = Err Empty
-taking (e ∷ []) = Ok e.mark
-taking (e ∷ (d ∷ es)) = taking (d ∷ es)
+-- the shelf after that answer
+abbrev pub entered : Result Entered RegisterFault → Entry → Shelf → Shelf
+entered r e s = with_entries (appended r e s.entries) s
 
--- the list without its last entry
-abbrev pub taken : List Entry → List Entry
-taken [] = []
-taken (e ∷ []) = []
-taken (e ∷ (d ∷ es)) = e ∷ taken (d ∷ es)
+-- the mark of the last entry
+abbrev pub last_mark : List Entry → Result ℕ RegisterFault
+last_mark [] = Err Empty
+last_mark (e ∷ []) = Ok e.mark
+last_mark (e ∷ (d ∷ es)) = last_mark (d ∷ es)
+
+-- the entries without the last one
+abbrev pub without_last : List Entry → List Entry
+without_last [] = []
+without_last (e ∷ []) = []
+without_last (e ∷ (d ∷ es)) = e ∷ without_last (d ∷ es)
+
+-- what taking back answers, and the shelf after it
+abbrev pub taking : Shelf → Result ℕ RegisterFault
+taking s = last_mark s.entries
+
+abbrev pub taken : Shelf → Shelf
+taken s = with_entries (without_last s.entries) s

@@ -1,10 +1,11 @@
 -- The code of a clash key.
-use Rattle.std.specs.Prelude.{ℕ, ◌+◌, ◌*◌, ◌≤◌, ◌⊎◌, List}
+use Rattle.std.specs.Prelude.{ℕ, ◌+◌, ◌*◌, ◌≤◌, ◌⊎◌}
+use Rattle.registers.specs.declared.clash.ClashKey.{ClashKey}
 use Rattle.rows.specs.Code.{code}
 
 -- two form numbers below 16 and a row
-abbrev pub clash_code : ℕ → ℕ → List ℕ → ℕ
-clash_code p q a = code a * 256 + 16 * p + q
+abbrev pub clash_code : ClashKey → ℕ
+clash_code key = code key.row.bells * 256 + 16 * key.first + key.second
 
 -- not both are numbers of forms
 abbrev pub OutOfSixteen : ℕ → ℕ → Type 0

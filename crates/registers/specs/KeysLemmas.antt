@@ -1,5 +1,5 @@
 -- Keys with equal codes are equal.
-use Rattle.std.specs.Prelude.{◌≡◌, ℕ, ◌+◌, ◌*◌, ◌<◌, ◌≤◌, true, List}
+use Rattle.std.specs.Prelude.{◌≡◌, ℕ, ◌+◌, ◌*◌, ◌<◌, ◌≤◌, true}
 use Rattle.std.proofs.Math.Bool.{Bool-set}
 use mathlib.Core.HLevel.{is_prop→PathP}
 use Rattle.std.proofs.Math.Bridge.{le_prop}
@@ -9,7 +9,7 @@ use Rattle.registers.specs.declared.clash.ClashKey.{ClashKey}
 use Rattle.rows.proofs.Codes.{code_small}
 use Rattle.rows.proofs.Digits.{row_only}
 use Rattle.rows.specs.Code.{code, fact}
-use Rattle.rows.specs.Rows.{is_row, RowOf, On}
+use Rattle.rows.specs.Rows.{is_row, On}
 use Rattle.rows.specs.declared.row.Row.{Row}
 
 -- a row is its bells: that they stand once each is one fact
@@ -25,7 +25,7 @@ digits_apart : (a b p q r s : ℕ) → p < 16 → q < 16 → r < 16 → s < 16 �
 digits_apart a b p q r s p16 q16 r16 s16 e = (omega arith, (omega arith, omega arith))
 
 -- clash keys with equal codes have equal rows and form numbers
-pub clash_apart : (x y : ClashKey) → clash_code x.first x.second x.row.bells ≡ clash_code y.first y.second y.row.bells → x ≡ y
+pub clash_apart : (x y : ClashKey) → clash_code x ≡ clash_code y → x ≡ y
 clash_apart x y e =
     let d = digits_apart (code x.row.bells) (code y.row.bells) x.first x.second y.first y.second x.few x.small y.few y.small e in
     λ i. record {
@@ -37,5 +37,5 @@ clash_apart x y e =
     }
 
 -- the code of a clash key whose row is on n bells
-pub clash_small : (n p q : ℕ) (a : List ℕ) → n ≤ 12 → RowOf 12 a → On n a → p < 16 → q < 16 → clash_code p q a < 256 * fact n
-clash_small n p q a l h o p16 q16 = omega (arith, code_small n a h o l)
+pub clash_small : (n : ℕ) (key : ClashKey) → n ≤ 12 → On n key.row.bells → clash_code key < 256 * fact n
+clash_small n key l on = omega (arith, code_small n key.row.bells key.row.once on l)

@@ -4,5 +4,6 @@ pub mod Entries
 pub mod Keys
 pub mod Lent
 pub mod Nodes
+pub mod Shelves
 pub mod Trials
 pub mod KeysLemmas

@@ -1,5 +1,5 @@
 -- The nodes of a search tree, the first n of which are its entries in the order of entering.
-use Rattle.std.specs.Prelude.{ℕ, zero, suc, Bool, cond, ◌&&◌, List, map, take, Some, None, Option, ◌==◌, nat_lt, slice_index_or}
+use Rattle.std.specs.Prelude.{◌≡◌, ℕ, ◌<◌, ◌≢◌, zero, suc, Bool, cond, ◌&&◌, List, map, take, Some, None, Option, ◌==◌, nat_lt, slice_index_or}
 use Rattle.registers.specs.Entries.{Entry}
 use Rattle.registers.specs.declared.tree.node.Node.{Node}
 
@@ -44,3 +44,12 @@ onward next i (Some l) = next l
 unfoldable pub stop : List Node → ℕ → ℕ → ℕ → ℕ → ℕ
 stop ns n k zero i = i
 stop ns n k (suc f) i = cond ((node_at ns i).code == k) i (onward (stop ns n k f) i (below ns n i k))
+
+-- one of the first n nodes has the code, and this mark
+abbrev pub Has : List Node → ℕ → ℕ → ℕ → Type 0
+Has ns n k m = (i : ℕ) × (i < n) × ((node_at ns i).code ≡ k) × (m ≡ (node_at ns i).mark)
+
+-- the search for a code ends at this node, which has another code, or at none where there is none
+abbrev pub Ends : List Node → ℕ → ℕ → Option ℕ → Type 0
+Ends ns n k None = n ≡ 0
+Ends ns n k (Some i) = (i < n) × (i ≡ stop ns n k n 0) × ((node_at ns i).code ≢ k)

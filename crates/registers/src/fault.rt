@@ -1,16 +1,19 @@
 // Why a register turns a call down.
 ghost use Rattle.registers.specs.Causes.{cause};
 
-use causes::{Cause, Refusal, Values};
-use std::fmt;
+use causes::{Cause, Refusal};
+use thiserror::Error;
 
-#[derive(Clone, Copy, Debug, PartialEq, Eq)]
+#[derive(Clone, Copy, Debug, PartialEq, Eq, Error)]
 pub enum RegisterFault {
     // the code is not below the reach
+    #[error("the code is not below the reach")]
     Reach,
     // the code is not held, and there is no room for one more
+    #[error("the register is full")]
     Full,
     // nothing is left to take back
+    #[error("the register is empty")]
     Empty,
 }
 
@@ -18,24 +21,10 @@ impl Refusal for RegisterFault {
     ghost caused = { cause };
 
     fn cause(&self) -> Cause {
-        let number = match self {
-            RegisterFault::Reach => 10,
-            RegisterFault::Full => 11,
-            RegisterFault::Empty => 12,
-        };
-        Cause {
-            number,
-            values: Values::None,
-        }
-    }
-}
-
-impl fmt::Display for RegisterFault {
-    fn fmt<W: fmt::Write>(&self, f: &mut fmt::Formatter<W>) -> fmt::Result {
         match self {
-            RegisterFault::Reach => f.write_str("the code is not below the reach"),
-            RegisterFault::Full => f.write_str("the register is full"),
-            RegisterFault::Empty => f.write_str("the register is empty"),
+            RegisterFault::Reach => Cause::plain(10),
+            RegisterFault::Full => Cause::plain(11),
+            RegisterFault::Empty => Cause::plain(12),
         }
     }
 }

@@ -20,6 +20,6 @@ impl Key for Row {
     ghost apart = { row_apart };
 
     fn code(&self) -> u64 {
-        Row::code(self) as u64
+        u64::from(Row::code(self))
     }
 }

@@ -8,5 +8,5 @@ const MOST: usize = 1_048_576;
 pub(crate) fn used(lent: usize) -> usize
     ensures { result ≡ used lent }
 {
-    if lent > MOST { MOST } else { lent }
+    lent.min(MOST)
 }

@@ -1,10 +1,11 @@
 // A trial that every register passes with every kind of key: enter, find, take back, find.
-ghost use Rattle.std.specs.Prelude.{◌≡◌, ◌*◌, [], length, ◌≢◌};
-ghost use Rattle.registers.specs.Entries.{Entry, marked, entering, entered};
+ghost use Rattle.std.specs.Prelude.{◌≡◌, length, ◌≢◌};
+ghost use Rattle.registers.specs.Entries.{marked, entering, entered};
 ghost use Rattle.registers.specs.Keys.{clash_code};
-ghost use Rattle.registers.specs.Lent.{used, Beyond};
+ghost use Rattle.registers.specs.Lent.{Beyond};
+ghost use Rattle.registers.specs.Shelves.{empty_table, empty_tree};
 ghost use Rattle.registers.specs.Trials.{undone, Passes};
-ghost use Rattle.rows.specs.Code.{code as row_code, fact};
+ghost use Rattle.rows.specs.Code.{code as row_code};
 
 use crate::clash::ClashKey;
 use crate::entered::Entered;
@@ -29,21 +30,17 @@ pub struct Trial {
 
 // Takes back what an enter has added.
 fn undo<K: Key, R: Register<K>>(register: &mut R, entered: Result<Entered, RegisterFault>)
-    ensures list { R.Register.entries register.new ≡ undone entered (R.Register.entries register.old) }
-    ensures fixed { (R.Register.reach register.new ≡ R.Register.reach register.old) × (R.Register.capacity register.new ≡ R.Register.capacity register.old) }
+    ensures { R.Register.shelf register.new ≡ undone entered (R.Register.shelf register.old) }
 {
-    if let Ok(answer) = entered {
-        if let Entered::Added = answer {
-            let _ = register.take_back();
-        }
+    if let Ok(Entered::Added) = entered {
+        let _ = register.take_back();
     }
 }
 
 pub fn try_key<K: Key, R: Register<K>>(register: &mut R, key: &K, mark: u32) -> Trial
-    ensures passes { Passes (R.Register.reach register.old) (R.Register.capacity register.old) (R.Register.entries register.old) (K.Key.code key.now) mark result }
-    ensures others { (other : K) → (other ≢ key.now) → marked (K.Key.code other) (entered result.entered (R.Register.entries register.old) (record { code = K.Key.code key.now; mark = mark })) ≡ marked (K.Key.code other) (R.Register.entries register.old) }
-    ensures list { R.Register.entries register.new ≡ R.Register.entries register.old }
-    ensures fixed { (R.Register.reach register.new ≡ R.Register.reach register.old) × (R.Register.capacity register.new ≡ R.Register.capacity register.old) }
+    ensures passes { Passes (R.Register.shelf register.old) (K.Key.code key.now) mark result }
+    ensures others { (other : K) → (other ≢ key.now) → marked (K.Key.code other) (entered result.entered (record { code = K.Key.code key.now; mark = mark }) (R.Register.shelf register.old)).entries ≡ marked (K.Key.code other) (R.Register.shelf register.old).entries }
+    ensures after { R.Register.shelf register.new ≡ R.Register.shelf register.old }
 {
     let entered = register.enter(key, mark);
     let found = register.find(key);
@@ -64,14 +61,14 @@ pub fn try_both<A: Register<Row>, B: Register<ClashKey>>(
     clash: &ClashKey,
     mark: u32,
 ) -> (Trial, Trial)
-    ensures row { Passes (A.Register.reach rows.old) (A.Register.capacity rows.old) (A.Register.entries rows.old) (row_code row.now.bells) mark result.0 }
-    ensures clash { Passes (B.Register.reach clashes.old) (B.Register.capacity clashes.old) (B.Register.entries clashes.old) (clash_code clash.now.first clash.now.second clash.now.row.bells) mark result.1 }
-    ensures lists { (A.Register.entries rows.new ≡ A.Register.entries rows.old) × (B.Register.entries clashes.new ≡ B.Register.entries clashes.old) }
+    ensures row { Passes (A.Register.shelf rows.old) (row_code row.now.bells) mark result.0 }
+    ensures clash { Passes (B.Register.shelf clashes.old) (clash_code clash.now) mark result.1 }
+    ensures after { (A.Register.shelf rows.new ≡ A.Register.shelf rows.old) × (B.Register.shelf clashes.new ≡ B.Register.shelf clashes.old) }
 {
     (try_key(rows, row, mark), try_key(clashes, clash, mark))
 }
 
-// Both kinds of key on search trees.
+// Both kinds of key on search trees. This and `try_tables`, and the two that lend, differ in the register alone: a trait over what a register is made of would be longer than they are.
 pub fn try_trees(
     nodes: &mut [Node],
     more_nodes: &mut [Node],
@@ -79,8 +76,8 @@ pub fn try_trees(
     clash: &ClashKey,
     mark: u32,
 ) -> (Trial, Trial)
-    ensures row { Passes (256 * fact 12) (used (length nodes.old)) [] (row_code row.now.bells) mark result.0 }
-    ensures clash { Passes (256 * fact 12) (used (length more_nodes.old)) [] (clash_code clash.now.first clash.now.second clash.now.row.bells) mark result.1 }
+    ensures row { Passes (empty_tree (length nodes.old)) (row_code row.now.bells) mark result.0 }
+    ensures clash { Passes (empty_tree (length more_nodes.old)) (clash_code clash.now) mark result.1 }
 {
     let mut row_tree = SearchTree::new(nodes);
     let mut clash_tree = SearchTree::new(more_nodes);
@@ -95,8 +92,8 @@ pub fn try_tables(
     clash: &ClashKey,
     mark: u32,
 ) -> (Trial, Trial)
-    ensures row { Passes (used (length cells.old)) (used (length cells.old)) [] (row_code row.now.bells) mark result.0 }
-    ensures clash { Passes (used (length more_cells.old)) (used (length more_cells.old)) [] (clash_code clash.now.first clash.now.second clash.now.row.bells) mark result.1 }
+    ensures row { Passes (empty_table (length cells.old)) (row_code row.now.bells) mark result.0 }
+    ensures clash { Passes (empty_table (length more_cells.old)) (clash_code clash.now) mark result.1 }
 {
     let mut row_table = RankTable::new(cells);
     let mut clash_table = RankTable::new(more_cells);
@@ -105,18 +102,16 @@ pub fn try_tables(
 
 // One entry in a tree that is then let go: its owner has the nodes back, those beyond use as they were.
 pub fn lend_nodes(nodes: &mut [Node], row: &Row, mark: u32) -> Result<Entered, RegisterFault>
-    ensures answer { result ≡ entering (256 * fact 12) (used (length nodes.old)) [] (row_code row.now.bells) }
+    ensures answer { result ≡ entering (empty_tree (length nodes.old)) (row_code row.now.bells) }
     ensures beyond { Beyond nodes.old nodes.new }
 {
-    let mut tree = SearchTree::new(nodes);
-    tree.enter(row, mark)
+    SearchTree::new(nodes).enter(row, mark)
 }
 
 // The same in a rank table.
 pub fn lend_cells(cells: &mut [Cell], row: &Row, mark: u32) -> Result<Entered, RegisterFault>
-    ensures answer { result ≡ entering (used (length cells.old)) (used (length cells.old)) [] (row_code row.now.bells) }
+    ensures answer { result ≡ entering (empty_table (length cells.old)) (row_code row.now.bells) }
     ensures beyond { Beyond cells.old cells.new }
 {
-    let mut table = RankTable::new(cells);
-    table.enter(row, mark)
+    RankTable::new(cells).enter(row, mark)
 }

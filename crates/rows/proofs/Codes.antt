@@ -3,7 +3,7 @@ use Rattle.std.proofs.Common.{◌≡◌, ℕ, zero, suc, ◌+◌, ◌-◌, ◌*�
 use Rattle.rows.specs.Code.{above, fact, digit, code_to, code, HasCode}
 use Rattle.rows.specs.Rows.{count, RowOf, On}
 use Rattle.rows.proofs.Members.{counted}
-use Rattle.rows.proofs.Counts.{count_append, above_none, once_of_row}
+use Rattle.rows.proofs.Counts.{count_append, above_none, beyond, once_of_row}
 use Rattle.rows.proofs.Digits.{fact_grows, digit_at, code_below, row_only}
 use Rattle.std.proofs.lemmas.List.{length-drop, take-append-drop, get_or-drop}
 use Rattle.std.proofs.lemmas.Bool.{cases_lt}
@@ -29,7 +29,7 @@ digit_cover : (n : ℕ) (a : List ℕ) → RowOf 12 a → On n a → (p : ℕ) �
 digit_cover n a r h p l m =
     let o = once_of_row 12 a r in
     digit_at a p ∙ rw (own_place n a h p l m) (above_none (suc p) (take p a) (λ u k. elim (cases_lt 12 u) [
-      | inl b ↦ omega (arith, o.beyond u b, ap (count u) (take-append-drop p a), count_append u (take p a) (drop p a))
+      | inl b ↦ omega (arith, beyond 12 a o u b, ap (count u) (take-append-drop p a), count_append u (take p a) (drop p a))
       | inr b ↦
           let e : suc (u - 1) ≡ u = omega arith in
           count_before a p (u - 1) u (omega (arith, o.once u (omega arith) b)) (omega arith) (omega (arith, o.size))

@@ -25,7 +25,7 @@ decoded (suc k) c = grown (suc k - left k c % suc k) (decoded k c)
 -- it is a row, since each digit is below its place
 pub once_decoded : (k c : ℕ) → Once k (decoded k c)
 unfolding decoded
-once_decoded zero c = record { size = refl; once = λ u l m. absurd (omega arith); zeros = refl; beyond = λ u l. refl }
+once_decoded zero c = record { size = refl; once = λ u l m. absurd (omega arith) }
 once_decoded (suc k) c =
     let d : left k c % suc k < suc k = mod-lt (left k c) (omega arith) in
     once_grown k (suc k - left k c % suc k) (decoded k c) (omega arith) (omega arith) (once_decoded k c)

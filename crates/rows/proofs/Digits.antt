@@ -3,7 +3,7 @@ use Rattle.std.proofs.Common.{◌≡◌, ℕ, zero, suc, ◌+◌, ◌-◌, ◌*�
 use native.Mathlib.Nat.{add-mul-div_right, div-eq_of_lt}
 use Rattle.rows.specs.Code.{above, raise, fact, digit, code_to}
 use Rattle.rows.specs.Rows.{count, RowOf}
-use Rattle.rows.proofs.Counts.{Once, count_append, above_append, above_length, above_row, above_same, above_more, once_of_row}
+use Rattle.rows.proofs.Counts.{Once, count_append, above_append, above_length, above_row, above_same, above_more, beyond, once_of_row, zeros}
 use Rattle.rows.proofs.Raised.{grown, above_raised, above_raised_at}
 use Rattle.std.proofs.lemmas.List.{length-map, length-take, get_or_append_left, take-append-le, get_or-map, take-map, get_or_at, take_at, take_all}
 use Rattle.std.proofs.lemmas.Bool.{cases_eq, cases_lt, cases_order}
@@ -128,14 +128,14 @@ row_only n a b ra rb e =
     let q = once_of_row n b rb in
     let fa : take n a ≡ a = take_all n a (omega (arith, o.size)) in
     let fb : take n b ≡ b = take_all n b (omega (arith, q.size)) in
-    sym fa ∙ code_only n a b n (omega (arith, o.size)) (omega (arith, q.size)) (λ u. rw (fa, fb) (counts o q u)) (λ u l. rw fa (o.beyond u l)) e ∙ fb
+    sym fa ∙ code_only n a b n (omega (arith, o.size)) (omega (arith, q.size)) (λ u. rw (fa, fb) (counts o q u)) (λ u l. rw fa (beyond n a o u l)) e ∙ fb
   where
     counts : Once n a → Once n b → (u : ℕ) → count u a ≡ count u b
     counts o q u =
         elim (cases_eq u 0) [
-          | inl z ↦ rw z (o.zeros ∙ sym q.zeros)
+          | inl z ↦ rw z (zeros n a o ∙ sym (zeros n b q))
           | inr d ↦ elim (cases_lt n u) [
-            | inl l ↦ o.beyond u l ∙ sym (q.beyond u l)
+            | inl l ↦ beyond n a o u l ∙ sym (beyond n b q u l)
             | inr l ↦ o.once u (omega arith) l ∙ sym (q.once u (omega arith) l)
           ]
         ]

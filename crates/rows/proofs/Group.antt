@@ -1,6 +1,7 @@
 -- Rows are a group under the product, and so are the rows on a stage.
-use Rattle.std.proofs.Common.{◌≡◌, ℕ, suc, ◌+◌, ◌-◌, ◌<◌, ◌≤◌, eqb, List, length, get_or, set, sym, refl, ap, ◌∙◌, arith, below_more}
-use Rattle.rows.proofs.Members.{Member, member, row_from, place_of_holds, place_of_only, count_map, count_counting}
+use Rattle.std.proofs.Common.{◌≡◌, ℕ, suc, ◌+◌, ◌-◌, ◌<◌, ◌≤◌, eqb, List, length, get_or, set, sym, ap, ◌∙◌, arith, below_more}
+use Rattle.rows.proofs.Members.{Member, member, place_of_holds, place_of_only, count_map, count_counting}
+use Rattle.rows.proofs.Counts.{row_of_once}
 use Rattle.rows.specs.Rows.{rounds, bell_in, times, place_of, inverse, RowOf, On}
 use Rattle.std.proofs.lemmas.List.FromFn.{length-range_with_len, get_or-range_with_len, length-map-range_with_len, get_or-map-range_with_len}
 use Rattle.std.proofs.lemmas.List.{ext_get_or, get_or-map, get_or-set_other, get_or-set_same, length-map}
@@ -63,11 +64,8 @@ pub times_row : (n : ℕ) (a b : List ℕ) → RowOf n a → RowOf n b → RowOf
 times_row n a b ra rb =
     let mb = member n b rb in
     let lb = mb.long in
-    let at : (i : ℕ) → i < n → get_or (times a b) i 0 ≡ bell_in a (get_or b i 0) = λ i l. get_or-map (bell_in a) b i 0 0 (omega arith) in
-    row_from n (times a b) (record {
-      long = times_length a b ∙ lb;
-      low = λ i l. rw (at i l) (bell_low n a ra (get_or b i 0) (mb.low i l) (mb.high i l));
-      high = λ i l. rw (at i l) (bell_high n a ra (get_or b i 0) (mb.low i l) (mb.high i l));
+    row_of_once n (times a b) (record {
+      size = times_length a b ∙ lb;
       once = λ v lo hi.
           let there = bell_in_place n a ra v lo hi in
           count_map (bell_in a) v (place_of v a) b (λ i l.
@@ -80,11 +78,8 @@ times_row n a b ra rb =
 
 pub inverse_row : (n : ℕ) (a : List ℕ) → RowOf n a → RowOf n (inverse n a)
 inverse_row n a r =
-    let at : (i : ℕ) → i < n → get_or (inverse n a) i 0 ≡ place_of (1 + i) a = λ i l. get_or-map-range_with_len (λ w. place_of w a) 1 n i (1 + i) 0 l refl in
-    row_from n (inverse n a) (record {
-      long = length-map-range_with_len (λ w. place_of w a) 1 n;
-      low = λ i l. rw (at i l) (bell_in_place n a r (1 + i) (omega arith) (omega arith)).0;
-      high = λ i l. rw (at i l) (bell_in_place n a r (1 + i) (omega arith) (omega arith)).1;
+    row_of_once n (inverse n a) (record {
+      size = length-map-range_with_len (λ w. place_of w a) 1 n;
       once = λ p lo hi.
           count_map (λ w. place_of w a) p (bell_in a p) (range_with_len 1 n) (λ i l.
           let k : i < n = rw length-range_with_len at l in
@@ -137,11 +132,6 @@ inverse_on n a r o p lo hi =
 
 pub rounds_on : (n : ℕ) → On n (rounds 12)
 rounds_on n p lo hi = rounds_at 12 p (omega arith) hi
-
--- a list that is filled place by place with the bells of a product is the product
-pub times_from : (n : ℕ) (a b c : List ℕ) → length b ≡ n → length c ≡ n → ((k : ℕ) → k < n → get_or c k 0 ≡ bell_in a (get_or b k 0)) → c ≡ times a b
-times_from n a b c lb lc h =
-    ext_get_or 0 c (times a b) (lc ∙ sym lb ∙ sym (times_length a b)) (λ i l. h i (omega arith) ∙ sym (get_or-map (bell_in a) b i 0 0 (omega arith)))
 
 module _ (n : ℕ) (a : List ℕ) (r : RowOf n a) where
   -- two places hold two bells

@@ -3,6 +3,7 @@ pub mod Counts
 pub mod Decoding
 pub mod Digits
 pub mod Group
+pub mod Mapped
 pub mod Members
 pub mod Raised
 pub mod Spelled

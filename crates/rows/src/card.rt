@@ -52,10 +52,8 @@ const CARD: [u16; 720] = [
 pub fn inverse_code(code: u32) -> Result<u32, RowFault>
     ensures { MatchResult result (λ d. (code < 720) × ((a : List ℕ) → HasCode 6 code a → d ≡ Rattle.rows.specs.Code.code (inverse 12 a))) (λ e. (e ≡ NoRow) × (720 ≤ code)) }
 {
-    if code >= 720 {
-        return Err(RowFault::Row);
-    }
-    Ok(CARD[code as usize] as u32)
+    let inverse = CARD.get(code as usize).ok_or(RowFault::Row)?;
+    Ok(u32::from(*inverse))
 }
 
 impl Row {
@@ -63,11 +61,11 @@ impl Row {
     pub fn inverse_on_six(&self) -> Row
         ensures { result.bells ≡ inverse 12 self.now.bells }
     {
-        if let Ok(code) = inverse_code(self.code())
-            && let Ok(row) = Row::of_code(Stage { bells: 6 }, code)
-        {
-            return row;
+        match inverse_code(self.code()) {
+            // each code on the card is one of a row on six bells
+            Ok(code) => Row::of_code(Stage { bells: 6 }, code).unwrap(),
+            // this is no row on six bells
+            Err(_) => self.inverse(),
         }
-        self.inverse()
     }
 }

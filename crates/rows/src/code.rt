@@ -1,5 +1,5 @@
 // The code of a row and the row of a code.
-ghost use Rattle.std.specs.Prelude.{◌≡◌, ℕ, ◌<◌, ◌≤◌, take, MatchResult, slice_index};
+ghost use Rattle.std.specs.Prelude.{◌≡◌, ℕ, ◌<◌, ◌≤◌, length, MatchResult, slice_index};
 ghost use Rattle.rows.specs.Code.{fact, above, code, inserted, HasCode};
 ghost use Rattle.rows.specs.Rows.{On};
 ghost use Rattle.rows.specs.declared.fault.RowFault.TheVariants.{Row as NoRow};
@@ -8,18 +8,12 @@ use crate::fault::RowFault;
 use crate::row::Row;
 use crate::stage::Stage;
 
-// How many of the bells before index `at` are greater than the one there.
-fn greater_before(bells: &[u8; 12], at: usize) -> u32
-    requires { at < 12 }
-    ensures { result ≡ above (slice_index bells.now at) (take at bells.now) }
+// How many of these bells are greater.
+fn count_greater(bells: &[u8], bell: u8) -> u32
+    requires { length bells.now ≤ 12 }
+    ensures { result ≡ above bell bells.now }
 {
-    let mut greater = 0;
-    for i in 0..at {
-        if bells[i] > bells[at] {
-            greater += 1;
-        }
-    }
-    greater
+    bells.iter().map(|other| u32::from(*other > bell)).sum()
 }
 
 // Puts a bell at index `at`; the bells before it that are not smaller move up by one.
@@ -28,9 +22,9 @@ fn insert(bells: &mut [u8; 12], at: usize, bell: u8)
     requires by_index { (i : ℕ) → i < at → slice_index bells.old i ≤ 12 }
     ensures { bells.new ≡ inserted at bell bells.old }
 {
-    for i in 0..at {
-        if bells[i] >= bell {
-            bells[i] += 1;
+    for other in &mut bells[..at] {
+        if *other >= bell {
+            *other += 1;
         }
     }
     bells[at] = bell;
@@ -45,9 +39,10 @@ impl Row {
     {
         let mut code = 0;
         let mut weight = 1;
+        // the number of bells before is a factor too, so the loop counts them
         for at in 1..12 {
             weight *= at as u32;
-            code += greater_before(&self.bells, at) * weight;
+            code += count_greater(&self.bells[..at], self.bells[at]) * weight;
         }
         code
     }
@@ -56,8 +51,9 @@ impl Row {
     pub fn of_code(stage: Stage, code: u32) -> Result<Row, RowFault>
         ensures { MatchResult result (λ row. HasCode stage.bells code row.bells) (λ e. (e ≡ NoRow) × (fact stage.bells ≤ code)) }
     {
-        let mut bells = [1, 2, 3, 4, 5, 6, 7, 8, 9, 10, 11, 12];
+        let mut bells = Row::rounds().bells;
         let mut rest = code;
+        // the number of places is what is divided by, so the loop counts them
         for at in 1..stage.bells as usize {
             let places = at as u32 + 1;
             let greater = (rest % places) as u8;

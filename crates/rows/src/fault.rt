@@ -1,14 +1,16 @@
 // Why a stage or a row is refused.
 ghost use Rattle.rows.specs.Causes.{cause};
 
-use causes::{Cause, Refusal, Values};
-use std::fmt;
+use causes::{Cause, Refusal};
+use thiserror::Error;
 
-#[derive(Clone, Copy, Debug, PartialEq, Eq)]
+#[derive(Clone, Copy, Debug, PartialEq, Eq, Error)]
 pub enum RowFault {
     // the number of bells is not 4 to 12
+    #[error("the stage is not 4 to 12")]
     Stage,
     // a text that is not the bells of the stage once each, or a number that is no code of a row on it
+    #[error("not the bells once each, or no code of a row")]
     Row,
 }
 
@@ -17,23 +19,8 @@ impl Refusal for RowFault {
 
     fn cause(&self) -> Cause {
         match self {
-            RowFault::Stage => Cause {
-                number: 1,
-                values: Values::None,
-            },
-            RowFault::Row => Cause {
-                number: 28,
-                values: Values::None,
-            },
-        }
-    }
-}
-
-impl fmt::Display for RowFault {
-    fn fmt<W: fmt::Write>(&self, f: &mut fmt::Formatter<W>) -> fmt::Result {
-        match self {
-            RowFault::Stage => f.write_str("the stage is not 4 to 12"),
-            RowFault::Row => f.write_str("not the bells once each, or no code of a row"),
+            RowFault::Stage => Cause::plain(1),
+            RowFault::Row => Cause::plain(28),
         }
     }
 }

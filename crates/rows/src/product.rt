@@ -1,9 +1,6 @@
 // Rounds, the product and the inverse of rows.
-ghost use Rattle.std.specs.Prelude.{◌≡◌, ℕ, ◌≤◌, List, Decides};
+ghost use Rattle.std.specs.Prelude.{◌≡◌, ℕ, ◌≤◌, List};
 ghost use Rattle.rows.specs.Rows.{rounds, bell_in, times, inverse, RowOf, On};
-ghost use Rattle.std.specs.Cmp.Rules.{comparing};
-ghost use Rattle.std.proofs.Common.{rules};
-ghost use Rattle.std.specs.Str.{bytes_eq};
 
 use crate::row::Row;
 
@@ -25,10 +22,7 @@ impl Row {
         ensures stage { (n : ℕ) → On n self.now.bells → On n other.now.bells → On n result.bells }
         ensures associative { (c : List ℕ) → RowOf 12 c → times result.bells c ≡ times self.now.bells (times other.now.bells c) }
     {
-        let mut bells = [0u8; 12];
-        for (p, bell) in other.bells.iter().enumerate() {
-            bells[p] = self.bells[*bell as usize - 1];
-        }
+        let bells = other.bells.map(|bell| self.bells[bell as usize - 1]);
         Row { bells }
     }
 
@@ -40,23 +34,10 @@ impl Row {
         ensures placed { (p : ℕ) → 1 ≤ p → p ≤ 12 → bell_in result.bells (bell_in self.now.bells p) ≡ p }
     {
         let mut bells = [0u8; 12];
+        // a bell says which place is written, and no adapter writes out of order
         for (p, bell) in self.bells.iter().enumerate() {
             bells[*bell as usize - 1] = p as u8 + 1;
         }
         Row { bells }
-    }
-}
-
-// Rows are equal where their bells are.
-impl PartialEq for Row {
-    ghost eq = { λ a b. bytes_eq a.bells b.bells };
-
-    ghost laws = { Prim.search (comparing, rules) };
-
-    fn eq(&self, other: &Row) -> bool
-        ensures value { result ≡ bytes_eq self.now.bells other.now.bells }
-        ensures decides { Decides result (self.now.bells ≡ other.now.bells) }
-    {
-        self.bells == other.bells
     }
 }

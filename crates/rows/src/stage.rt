@@ -17,7 +17,7 @@ impl Stage {
     pub fn new(bells: usize) -> Result<Stage, RowFault>
         ensures { MatchResult result (λ s. s.bells ≡ bells) (λ e. (e ≡ NoStage) × (IsStage bells → ⊥)) }
     {
-        if bells < 4 || bells > 12 {
+        if !(4..=12).contains(&bells) {
             return Err(RowFault::Stage);
         }
         Ok(Stage { bells: bells as u8 })

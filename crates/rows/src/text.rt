@@ -1,5 +1,5 @@
 // How rows are written: one bell character for each bell.
-ghost use Rattle.std.specs.Prelude.{◌≡◌, ℕ, List, map, MatchResult, ◌≢◌};
+ghost use Rattle.std.specs.Prelude.{◌≡◌, ℕ, ◌<◌, List, map, MatchOption, MatchResult, Some, ◌≢◌};
 ghost use Rattle.rows.specs.Rows.{count, is_row, RowOf, On};
 ghost use Rattle.rows.specs.Text.{named, character, spelled};
 ghost use Rattle.rows.specs.declared.fault.RowFault.TheVariants.{Row as NoRow};
@@ -7,17 +7,18 @@ ghost use Rattle.rows.specs.declared.fault.RowFault.TheVariants.{Row as NoRow};
 use crate::fault::RowFault;
 use crate::row::Row;
 use crate::stage::Stage;
+use std::fmt;
 
-// The bell, or the place, that a byte names; 0 if it names none.
-pub fn bell_named(byte: u8) -> u8
-    ensures { result ≡ named byte }
+// The bell, or the place, that a byte names.
+pub fn bell_named(byte: u8) -> Option<u8>
+    ensures { MatchOption result (named byte ≡ 0) (λ bell. (0 < bell) × (named byte ≡ bell)) }
 {
     match byte {
-        b'1'..=b'9' => byte - b'0',
-        b'0' => 10,
-        b'E' => 11,
-        b'T' => 12,
-        _ => 0,
+        b'1'..=b'9' => Some(byte - b'0'),
+        b'0' => Some(10),
+        b'E' => Some(11),
+        b'T' => Some(12),
+        _ => None,
     }
 }
 
@@ -33,33 +34,18 @@ fn bell_character(bell: u8) -> u8
     }
 }
 
+// How often a bell stands there.
 fn times_held(bells: &[u8; 12], bell: u8) -> usize
     ensures { result ≡ count bell bells.now }
 {
-    let mut held = 0;
-    for other in bells {
-        if *other == bell {
-            held += 1;
-        }
-    }
-    held
+    bells.iter().filter(|other| **other == bell).count()
 }
 
 // Whether the bells 1 to 12 stand there once each.
 fn once_each(bells: &[u8; 12]) -> bool
     ensures { result ≡ is_row 12 bells.now }
 {
-    for bell in bells {
-        if *bell < 1 || *bell > 12 {
-            return false;
-        }
-    }
-    for bell in 1..13u8 {
-        if times_held(bells, bell) != 1 {
-            return false;
-        }
-    }
-    true
+    (1..13).all(|bell| times_held(bells, bell) == 1)
 }
 
 impl Row {
@@ -70,9 +56,10 @@ impl Row {
         if text.len() != stage.bells as usize {
             return Err(RowFault::Row);
         }
-        let mut bells = [1, 2, 3, 4, 5, 6, 7, 8, 9, 10, 11, 12];
+        let mut bells = Row::rounds().bells;
+        // behind a zip with `iter_mut` nothing is known of what was written, so it goes by place
         for (p, byte) in text.iter().enumerate() {
-            bells[p] = bell_named(*byte);
+            bells[p] = bell_named(*byte).ok_or(RowFault::Row)?;
         }
         if !once_each(&bells) {
             return Err(RowFault::Row);
@@ -80,15 +67,37 @@ impl Row {
         Ok(Row { bells })
     }
 
+    // The row as it is written on the stage, for printing.
+    pub fn on(&self, stage: Stage) -> Spelled
+        ensures row { result.row ≡ self.now }
+        ensures stage { result.stage ≡ stage }
+    {
+        Spelled { row: *self, stage }
+    }
+
     // The characters of the twelve bells; on a stage of n bells the row is written with the first n.
     pub fn characters(&self) -> [u8; 12]
         ensures { result ≡ map character self.now.bells }
     {
-        let mut characters = [0; 12];
-        for (p, bell) in self.bells.iter().enumerate() {
-            characters[p] = bell_character(*bell);
+        self.bells.map(bell_character)
+    }
+}
+
+// A row with the stage that it is written on: one character for each bell of the stage.
+#[derive(Clone, Copy)]
+pub struct Spelled {
+    pub row: Row,
+    pub stage: Stage,
+}
+
+impl fmt::Display for Spelled {
+    ghost output = { λ s. Some (spelled s.stage.bells s.row.bells) };
+
+    fn fmt<W: fmt::Write>(&self, f: &mut fmt::Formatter<W>) -> fmt::Result {
+        for bell in &self.row.bells[..self.stage.bells as usize] {
+            f.write_char(char::from(bell_character(*bell)))?;
         }
-        characters
+        Ok(())
     }
 }
 
@@ -110,6 +119,17 @@ mod tests {
         assert_eq!(rt; long.cause().number, 28);
         let twice = Row::read(six, b"135244").err().ok_or("the 4 twice")?;
         assert_eq!(rt; twice.cause().number, 28);
+        Ok(())
+    }
+
+    #[test]
+    fn written_on_a_stage(rt: HostRuntime) -> Result<(), Fail> {
+        let twelve = Stage::new(12)?;
+        let row = Row::read(twelve, b"2143658709TE")?;
+        let whole = format!(in rt.alloc(); "{}", row.on(twelve))?;
+        assert_eq!(rt; whole.as_str(), "2143658709TE");
+        let six = format!(in rt.alloc(); "{}", row.on(Stage::new(6)?))?;
+        assert_eq!(rt; six.as_str(), "214365");
         Ok(())
     }
 }

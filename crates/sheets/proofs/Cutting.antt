@@ -1,34 +1,16 @@
--- Cutting a text at a byte, and reading a number digit by digit.
-use Rattle.std.proofs.Common.{◌≡◌, ℕ, suc, ◌+◌, ◌-◌, ◌*◌, ◌^◌, ◌<◌, ◌≤◌, min, true, false, cond, ◌&&◌, eqb, leb, ◌⊎◌, List, [], ◌∷◌, ◌++◌, length, get_or, take, drop, sym, refl, ap, ◌∙◌, subst, ⊎_elim, arith}
-use Rattle.sheets.specs.Words.{upto, all_digits, digits, value}
-use Rattle.std.proofs.lemmas.List.{at_drop_more, at_drop_all, drop_all, set-get_or, set_split, take_rest}
-use Rattle.std.proofs.lemmas.List.Sums.{fold_more}
-use Rattle.std.proofs.lemmas.Bool.{and_from, and_left, and_right, cond-true, cond-false, eq-eqb, ne_eqb, le-leb, lt-leb}
+-- Cutting a text at a byte.
+use Rattle.std.proofs.Common.{◌≡◌, ℕ, suc, ◌+◌, ◌<◌, ◌≤◌, ◌≢◌, eqb, List, ◌∷◌, ◌++◌, length, get_or, take, drop, sym, ap, ◌∙◌, arith, length-drop}
+use Rattle.sheets.specs.Words.{upto}
+use Rattle.std.proofs.lemmas.List.{get_or-drop, set-get_or, set_split}
+use Rattle.std.proofs.lemmas.List.Sums.{position_or_len_is}
+use Rattle.std.proofs.lemmas.Bool.{eq-eqb, ne_eqb}
 
--- a byte of another value is passed
-pub upto_more : (b : ℕ) (t : List ℕ) (i : ℕ) → i < length t → upto b t ≡ i + upto b (drop i t) → (get_or t i 0 ≡ b → ⊥) → upto b t ≡ i + 1 + upto b (drop (i + 1) t)
-upto_more b t i l h other =
-    let here : upto b (drop i t) ≡ cond (eqb (get_or t i 0) b) 0 (suc (upto b (drop (i + 1) t))) = at_drop_more (upto b) t i 0 l in
-    omega (arith, here ∙ cond-false (eqb (get_or t i 0) b) 0 (suc (upto b (drop (i + 1) t))) (ne_eqb (get_or t i 0) b other))
+-- the first b is the one before which none stands
+pub first_at : (b : ℕ) (t : List ℕ) (i : ℕ) → i < length t → get_or t i 0 ≡ b → ((k : ℕ) → k < i → get_or t k 0 ≢ b) → upto b t ≡ i
+first_at b t i l is before = position_or_len_is (λ x. eqb x b) t i 0 (omega arith) (λ k h. ne_eqb (get_or t k 0) b (before k h)) (λ _. eq-eqb (get_or t i 0) b is)
 
--- the first byte of this value ends the search
-pub upto_found : (b : ℕ) (t : List ℕ) (i : ℕ) → i < length t → upto b t ≡ i + upto b (drop i t) → get_or t i 0 ≡ b → i ≡ upto b t
-upto_found b t i l h same =
-    let here : upto b (drop i t) ≡ cond (eqb (get_or t i 0) b) 0 (suc (upto b (drop (i + 1) t))) = at_drop_more (upto b) t i 0 l in
-    omega (arith, here ∙ cond-true (eqb (get_or t i 0) b) 0 (suc (upto b (drop (i + 1) t))) (eq-eqb (get_or t i 0) b same))
-
-pub upto_none : (b : ℕ) (t : List ℕ) (i : ℕ) → length t ≤ i → i ≤ length t → upto b t ≡ i + upto b (drop i t) → length t ≡ upto b t
-upto_none b t i l m h = let here : upto b (drop i t) ≡ 0 = at_drop_all (upto b) t i l in omega arith
-
--- no byte of this value stands from i on
-abbrev pub NoneFrom : ℕ → List ℕ → ℕ → Type 0
-NoneFrom b t i = upto b (drop i t) ≡ length (drop i t)
-
-pub none_more : (b : ℕ) (t : List ℕ) (i : ℕ) → i < length t → NoneFrom b t (i + 1) → (get_or t i 0 ≡ b → ⊥) → NoneFrom b t i
-none_more b t i l none other =
-    let here : upto b (drop i t) ≡ cond (eqb (get_or t i 0) b) 0 (suc (upto b (drop (i + 1) t))) = at_drop_more (upto b) t i 0 l in
-    let long : length (drop i t) ≡ suc (length (drop (i + 1) t)) = at_drop_more length t i 0 l in
-    omega (arith, here ∙ cond-false (eqb (get_or t i 0) b) 0 (suc (upto b (drop (i + 1) t))) (ne_eqb (get_or t i 0) b other), long, none)
+pub none_at : (b : ℕ) (t : List ℕ) → ((k : ℕ) → k < length t → get_or t k 0 ≢ b) → upto b t ≡ length t
+none_at b t other = position_or_len_is (λ x. eqb x b) t (length t) 0 (omega arith) (λ k h. ne_eqb (get_or t k 0) b (other k h)) (λ l. absurd (omega arith))
 
 -- the byte at i and what stands on both sides of it make the text
 pub parted_at : (b : ℕ) (t : List ℕ) (i : ℕ) → i < length t → get_or t i 0 ≡ b → t ≡ take i t ++ b ∷ drop (i + 1) t
@@ -36,51 +18,6 @@ parted_at b t i l is =
     let next : suc i ≡ i + 1 = omega arith in
     sym (set-get_or t i 0) ∙ set_split t i (get_or t i 0) l ∙ ap (λ x. take i t ++ x ∷ drop (suc i) t) is ∙ ap (λ k. take i t ++ b ∷ drop k t) next
 
--- the last byte of this value stands before k, as `&t[0..k - 1]` and `&t[k..]` are read
-pub last_found : (b : ℕ) (t : List ℕ) (k : ℕ) → 0 < k → k ≤ length t → NoneFrom b t k → get_or t (k - 1) 0 ≡ b
-    → (t ≡ take (k - 1 - 0) t ++ b ∷ take (length t - (k - 1 + 1)) (drop (k - 1 + 1) t)) × (upto b (take (length t - (k - 1 + 1)) (drop (k - 1 + 1) t)) ≡ length (take (length t - (k - 1 + 1)) (drop (k - 1 + 1) t)))
-last_found b t k some l none is =
-    let front : k - 1 ≡ k - 1 - 0 = omega arith in
-    let back : k ≡ k - 1 + 1 = omega arith in
-    let rest = sym (take_rest t (k - 1 + 1)) in (
-      parted_at b t (k - 1) (omega arith) is ∙ (λ i. take (front i) t ++ b ∷ rest i),
-      subst (λ x. upto b x ≡ length x) rest (subst (NoneFrom b t) back none),
-    )
-
-pub none_before : (b : ℕ) (t : List ℕ) (k : ℕ) → 0 < k → k ≤ length t → NoneFrom b t k → (get_or t (k - 1) 0 ≡ b → ⊥) → NoneFrom b t (k - 1)
-none_before b t k some l none other =
-    let back : k ≡ k - 1 + 1 = omega arith in
-    none_more b t (k - 1) (omega arith) (subst (NoneFrom b t) back none) other
-
-pub none_at_end : (b : ℕ) (t : List ℕ) → NoneFrom b t (length t)
-none_at_end b t = subst (λ x. upto b x ≡ length x) (sym (drop_all (length t) t (omega arith))) refl
-
--- a digit goes on with the test of all digits
-pub digits_more : (t : List ℕ) (i : ℕ) → i < length t → 48 ≤ get_or t i 0 → get_or t i 0 ≤ 57 → all_digits t ≡ all_digits (drop i t) → all_digits t ≡ all_digits (drop (i + 1) t)
-digits_more t i l lo hi h =
-    let here : all_digits (drop i t) ≡ ((leb 48 (get_or t i 0) && leb (get_or t i 0) 57) && all_digits (drop (i + 1) t)) = at_drop_more all_digits t i 0 l in
-    h ∙ here ∙ ap (λ b. b && all_digits (drop (i + 1) t)) (and_from (leb 48 (get_or t i 0)) (leb (get_or t i 0) 57) (le-leb 48 (get_or t i 0) lo) (le-leb (get_or t i 0) 57 hi))
-
--- another byte ends it
-pub digits_not : (t : List ℕ) (i : ℕ) → i < length t → (get_or t i 0 < 48) ⊎ (57 < get_or t i 0) → all_digits t ≡ all_digits (drop i t) → all_digits t ≡ false
-digits_not t i l out h =
-    let here : all_digits (drop i t) ≡ ((leb 48 (get_or t i 0) && leb (get_or t i 0) 57) && all_digits (drop (i + 1) t)) = at_drop_more all_digits t i 0 l in
-    let none : (leb 48 (get_or t i 0) && leb (get_or t i 0) 57) ≡ false = ⊎_elim (λ lo. and_left (leb 48 (get_or t i 0)) (leb (get_or t i 0) 57) (lt-leb 48 (get_or t i 0) lo)) (λ hi. and_right (leb 48 (get_or t i 0)) (leb (get_or t i 0) 57) (lt-leb (get_or t i 0) 57 hi)) out in
-    h ∙ here ∙ ap (λ b. b && all_digits (drop (i + 1) t)) none
-
-pub digits_all : (t : List ℕ) (i : ℕ) → length t ≤ i → all_digits t ≡ all_digits (drop i t) → all_digits t ≡ true
-digits_all t i l h = let none : all_digits (drop i t) ≡ true = at_drop_all all_digits t i l in h ∙ none
-
-pub digits_some : (t : List ℕ) → 0 < length t → digits t ≡ all_digits t
-digits_some [] l = absurd (omega arith)
-digits_some (x ∷ xs) l = refl
-
-pub digits_none : (t : List ℕ) → length t ≡ 0 → digits t ≡ false
-digits_none [] l = refl
-digits_none (x ∷ xs) l = absurd (omega arith)
-
--- one digit more; what is too large stays the largest
-pub value_more : (t : List ℕ) (i n : ℕ) → i < length t → n ≡ min (value (take i t)) (2 ^ 64 - 1) → min (min (n * 10) (2 ^ 64 - 1) + (get_or t i 0 - 48)) (2 ^ 64 - 1) ≡ min (value (take (i + 1) t)) (2 ^ 64 - 1)
-value_more t i n l h =
-    let next : value (take (i + 1) t) ≡ value (take i t) * 10 + (get_or t i 0 - 48) = fold_more (λ m x. m * 10 + (x - 48)) 0 t i 0 l in
-    omega arith
+-- none stands behind the last b
+pub none_behind : (b : ℕ) (t : List ℕ) (i : ℕ) → ((k : ℕ) → i + 1 ≤ k → k < length t → get_or t k 0 ≢ b) → upto b (drop (i + 1) t) ≡ length (drop (i + 1) t)
+none_behind b t i behind = none_at b (drop (i + 1) t) (λ k h e. behind (i + 1 + k) (omega arith) (omega (arith, length-drop (i + 1) t)) (sym (get_or-drop (i + 1) t k 0) ∙ e))

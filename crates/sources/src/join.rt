@@ -8,18 +8,16 @@ use crate::source::Source;
 pub struct Join<A, B> {
     first: A,
     second: B,
-    // whether the first list is finished and the second begun
+    // whether the first list is finished and the second begun; both sources stay, to be rewound
     turned: bool,
 }
 
 impl<A: Source, B: Source> Join<A, B> {
     // Rewinds both sources.
-    pub fn new(first: A, second: B) -> Join<A, B>
+    pub fn new(mut first: A, mut second: B) -> Join<A, B>
         ensures list { A.Source.list result.first ++ B.Source.list result.second ≡ A.Source.list first ++ B.Source.list second }
         ensures given { (given_of_join result.turned (A.Source.list result.first) (A.Source.given result.first) (B.Source.given result.second) ≡ 0) × (A.Source.given result.first ≡ 0) × (B.Source.given result.second ≡ 0) }
     {
-        let mut first = first;
-        let mut second = second;
         first.rewind();
         second.rewind();
         Join {

@@ -24,10 +24,7 @@ impl<'a> Source for Listed<'a> {
     ghost given = { λ s. s.given };
 
     fn next(&mut self) -> Option<u8> {
-        if self.given >= self.bytes.len() {
-            return None;
-        }
-        let number = self.bytes[self.given];
+        let number = *self.bytes.get(self.given)?;
         self.given += 1;
         Some(number)
     }

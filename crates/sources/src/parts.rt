@@ -6,6 +6,7 @@ ghost use Rattle.std.specs.List.{repeat};
 
 use crate::fault::SourceFault;
 use crate::source::Source;
+use causes::Returned;
 
 #[derive(Drop)]
 pub struct Parts<S> {
@@ -15,27 +16,19 @@ pub struct Parts<S> {
     round: u8,
 }
 
-// A source that no layer was made of, as it was, and why.
-#[derive(Drop)]
-pub struct Unlayered<S> {
-    pub source: S,
-    pub fault: SourceFault,
-}
-
 impl<S: Source> Parts<S> {
-    // Rewinds the source; refused where the times are not 1 to 99.
-    pub fn new(below: S, times: u8) -> Result<Parts<S>, Unlayered<S>>
-        ensures list { MatchResult result (λ p. repeat p.times (S.Source.list p.below) ≡ repeat times (S.Source.list below)) (λ e. e.source ≡ below) }
+    // Rewinds the source; refused where the times are not 1 to 99, and then the source comes back as it was.
+    pub fn new(mut below: S, times: u8) -> Result<Parts<S>, Returned<S, SourceFault>>
+        ensures list { MatchResult result (λ p. repeat p.times (S.Source.list p.below) ≡ repeat times (S.Source.list below)) (λ e. e.value ≡ below) }
         ensures given { MatchResult result (λ p. (given_of_parts p.times p.round (S.Source.list p.below) (S.Source.given p.below) ≡ 0) × (S.Source.given p.below ≡ 0)) (λ e. e.fault ≡ Times) }
         ensures limits { MatchResult result (λ _. (1 ≤ times) × (times ≤ 99)) (λ _. (times < 1) ⊎ (99 < times)) }
     {
-        if times < 1 || times > 99 {
-            return Err(Unlayered {
-                source: below,
+        if !(1..=99).contains(&times) {
+            return Err(Returned {
+                value: below,
                 fault: SourceFault::Times,
             });
         }
-        let mut below = below;
         below.rewind();
         Ok(Parts {
             below,
@@ -50,6 +43,7 @@ impl<S: Source> Source for Parts<S> {
 
     ghost given = { λ s. given_of_parts s.times s.round (S.Source.list s.below) (S.Source.given s.below) };
 
+    #[tactic(auto, using(crate::proofs::Giving::rounds))]
     fn next(&mut self) -> Option<u8> {
         if self.round >= self.times {
             return None;

@@ -1,7 +1,6 @@
 // A run of one number.
-ghost use Rattle.std.specs.Prelude.{◌≡◌, ℕ, ◌<◌, [], ◌∷◌, MatchResult};
+ghost use Rattle.std.specs.Prelude.{◌≡◌, ℕ, ◌<◌, ◌≤◌, MatchResult, replicate};
 ghost use Rattle.sources.specs.declared.fault.SourceFault.TheVariants.{Times};
-ghost use Rattle.std.specs.List.{repeat};
 
 use crate::fault::SourceFault;
 use crate::source::Source;
@@ -16,7 +15,7 @@ pub struct Run {
 impl Run {
     // Refused where the times are more than 1,280.
     pub fn new(number: u8, times: usize) -> Result<Run, SourceFault>
-        ensures { MatchResult result (λ s. (s.number ≡ number) × (s.times ≡ times) × (s.given ≡ 0)) (λ e. (e ≡ Times) × (1280 < times)) }
+        ensures { MatchResult result (λ s. (times ≤ 1280) × (s.number ≡ number) × (s.times ≡ times) × (s.given ≡ 0)) (λ e. (e ≡ Times) × (1280 < times)) }
     {
         if times > 1280 {
             return Err(SourceFault::Times);
@@ -30,7 +29,7 @@ impl Run {
 }
 
 impl Source for Run {
-    ghost list = { λ s. repeat s.times (s.number ∷ []) };
+    ghost list = { λ s. replicate s.times s.number };
 
     ghost given = { λ s. s.given };
 

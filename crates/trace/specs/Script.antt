@@ -1,6 +1,6 @@
 -- What each line of a script says.
-use Rattle.std.specs.Prelude.{◌≡◌, ℕ, ◌-◌, ◌^◌, ◌<◌, min, true, List, ◌∷◌, ◌++◌, take, Some, None, codes, Option}
-use Rattle.sheets.specs.Words.{upto, digits, value, Word, BlankLine}
+use Rattle.std.specs.Prelude.{◌≡◌, ℕ, ◌-◌, ◌^◌, ◌<◌, min, true, List, ◌∷◌, ◌++◌, length, Some, None, codes, Option}
+use Rattle.sheets.specs.Words.{before, digits, value, Word, BlankLine}
 use Rattle.trace.specs.declared.command.Command.{Command}
 use Rattle.trace.specs.declared.command.Command.TheVariants.{Blank, Lend, Rows, Clashes, Enter, Find, Count, Back, Unknown}
 use Rattle.std.specs.Borrow.{Bor}
@@ -35,31 +35,21 @@ EnterOf t (Some c) = (key : Bor (List ℕ)) × (m : ℕ) × (c ≡ Enter key m) 
 
 -- what a line of one word says
 abbrev pub SaysAlone : List ℕ → Command → Type 0
-SaysAlone t Blank = ⊥
-SaysAlone t (Lend n c) = ⊥
 SaysAlone t Rows = t ≡ codes "rows"
 SaysAlone t Clashes = t ≡ codes "clashes"
-SaysAlone t (Enter key m) = ⊥
-SaysAlone t (Find key) = ⊥
 SaysAlone t Count = t ≡ codes "count"
 SaysAlone t Back = t ≡ codes "back"
-SaysAlone t (Unknown word) = ⊥
+SaysAlone t _ = ⊥
 
 -- what a word says with the arguments behind it
 abbrev pub SaysWith : List ℕ → List ℕ → Command → Type 0
-SaysWith w a Blank = ⊥
 SaysWith w a (Lend n c) = (w ≡ codes "lend") × LendArgs a n c
-SaysWith w a Rows = ⊥
-SaysWith w a Clashes = ⊥
 SaysWith w a (Enter key m) = (w ≡ codes "enter") × EnterArgs a key.now m
 SaysWith w a (Find key) = (w ≡ codes "find") × (key.now ≡ a)
-SaysWith w a Count = ⊥
-SaysWith w a Back = ⊥
-SaysWith w a (Unknown word) = ⊥
+SaysWith w a _ = ⊥
 
 -- what a line says as a command
 abbrev pub Says : List ℕ → Command → Type 0
-Says t Blank = ⊥
 Says t (Lend n c) = (args : List ℕ) × (t ≡ codes "lend " ++ args) × LendArgs args n c
 Says t Rows = t ≡ codes "rows"
 Says t Clashes = t ≡ codes "clashes"
@@ -67,19 +57,13 @@ Says t (Enter key m) = (args : List ℕ) × (t ≡ codes "enter " ++ args) × En
 Says t (Find key) = t ≡ codes "find " ++ key.now
 Says t Count = t ≡ codes "count"
 Says t Back = t ≡ codes "back"
-Says t (Unknown word) = ⊥
+Says t _ = ⊥
 
 -- a line is blank, or a command, or unknown: then its word is what stands before the first space
 abbrev pub Parsed : List ℕ → Command → Type 0
 Parsed t Blank = BlankLine t
-Parsed t (Lend n c) = Says t (Lend n c)
-Parsed t Rows = Says t Rows
-Parsed t Clashes = Says t Clashes
-Parsed t (Enter key m) = Says t (Enter key m)
-Parsed t (Find key) = Says t (Find key)
-Parsed t Count = Says t Count
-Parsed t Back = Says t Back
-Parsed t (Unknown word) = (word.now ≡ take (upto 32 t) t) × (BlankLine t → ⊥) × ((c : Command) → Says t c → ⊥)
+Parsed t (Unknown word) = (word.now ≡ before 32 t) × (BlankLine t → ⊥) × ((c : Command) → Says t c → ⊥)
+Parsed t c = Says t c
 
 -- the answers of the two functions that look at the word
 abbrev pub Alone : List ℕ → Option Command → Type 0
@@ -89,3 +73,8 @@ Alone t (Some c) = SaysAlone t c
 abbrev pub Known : List ℕ → List ℕ → Option Command → Type 0
 Known w a None = (c : Command) → SaysWith w a c → ⊥
 Known w a (Some c) = SaysWith w a c
+
+-- the command that comes next in the lines t, of which those behind it are left; none where nothing is left
+abbrev pub ComesNext : List ℕ → Option Command → List ℕ → Type 0
+ComesNext t None rest = length rest ≡ 0
+ComesNext t (Some c) rest = length rest < length t

@@ -1,66 +1,82 @@
 // What a register answers, as it is printed.
+ghost use Rattle.std.specs.Fmt.{◌++?◌};
+ghost use Rattle.std.specs.Prelude.{Some, codes, decimal, ◌++◌};
+ghost use Rattle.trace.specs.Answers.{entered_shown, found_shown, taken_shown};
+
 use causes::Refusal;
 use registers::entered::Entered;
 use registers::fault::RegisterFault;
-use std::io::{BufWriter, Stdout, Write};
-use std::{fmt, io};
+use std::fmt;
+use std::fmt::Display;
 
 #[derive(Drop)]
-pub enum Answer {
-    Added,
-    Held(u32),
-    Mark(u32),
-    Absent,
-    Count(usize),
-    Refused(RegisterFault),
-}
+pub struct Answer<A>(pub A);
 
-impl Answer {
-    pub fn entered(entered: Result<Entered, RegisterFault>) -> Answer {
-        match entered {
-            Ok(Entered::Added) => Answer::Added,
-            Ok(Entered::Held(mark)) => Answer::Held(mark),
-            Err(fault) => Answer::Refused(fault),
-        }
-    }
+// What entering a key answers.
+impl Display for Answer<Result<Entered, RegisterFault>> {
+    ghost output = { λ a. Some (entered_shown a.0) };
 
-    pub fn found(mark: Option<u32>) -> Answer {
-        match mark {
-            Some(mark) => Answer::Mark(mark),
-            None => Answer::Absent,
-        }
-    }
-
-    pub fn taken(mark: Result<u32, RegisterFault>) -> Answer {
-        match mark {
-            Ok(mark) => Answer::Mark(mark),
-            Err(fault) => Answer::Refused(fault),
-        }
-    }
-}
-
-impl fmt::Display for Answer {
     fn fmt<W: fmt::Write>(&self, f: &mut fmt::Formatter<W>) -> fmt::Result {
-        match self {
-            Answer::Added => f.write_str("added"),
-            Answer::Held(mark) => write!(f, "held {mark}"),
-            Answer::Mark(mark) => write!(f, "{mark}"),
-            Answer::Absent => f.write_str("absent"),
-            Answer::Count(count) => write!(f, "{count}"),
-            Answer::Refused(fault) => {
-                let cause = fault.cause();
-                write!(f, "{cause}")
-            }
+        match self.0 {
+            Ok(Entered::Added) => f.write_str("added"),
+            Ok(Entered::Held(mark)) => write!(f, "held {mark}"),
+            Err(fault) => write!(f, "{}", fault.cause()),
         }
     }
 }
 
-// The answers of both registers to one call.
-pub fn print_both(
-    word: &str,
-    tree: &Answer,
-    rank: &Answer,
-    out: &mut BufWriter<Stdout>,
-) -> io::Result<()> {
-    writeln!(out, "{word}: tree {tree}, rank {rank}")
+// What finding a key answers.
+impl Display for Answer<Option<u32>> {
+    ghost output = { λ a. Some (found_shown a.0) };
+
+    fn fmt<W: fmt::Write>(&self, f: &mut fmt::Formatter<W>) -> fmt::Result {
+        match self.0 {
+            Some(mark) => write!(f, "{mark}"),
+            None => f.write_str("absent"),
+        }
+    }
+}
+
+// What taking back answers.
+impl Display for Answer<Result<u32, RegisterFault>> {
+    ghost output = { λ a. Some (taken_shown a.0) };
+
+    fn fmt<W: fmt::Write>(&self, f: &mut fmt::Formatter<W>) -> fmt::Result {
+        match self.0 {
+            Ok(mark) => write!(f, "{mark}"),
+            Err(fault) => write!(f, "{}", fault.cause()),
+        }
+    }
+}
+
+// How much a register can hold.
+#[derive(Clone, Copy)]
+pub struct Room {
+    pub reach: u64,
+    pub capacity: usize,
+}
+
+impl Display for Room {
+    ghost output = { λ r. Some (codes "reach " ++ (decimal r.reach ++ (codes " capacity " ++ decimal r.capacity))) };
+
+    fn fmt<W: fmt::Write>(&self, f: &mut fmt::Formatter<W>) -> fmt::Result {
+        let Room { reach, capacity } = self;
+        write!(f, "reach {reach} capacity {capacity}")
+    }
+}
+
+// What both registers say, side by side.
+#[derive(Drop)]
+pub struct Both<A> {
+    pub tree: A,
+    pub rank: A,
+}
+
+impl<A: Display> Display for Both<A> {
+    ghost output = { λ b. Some (codes "tree ") ++? A.output b.tree ++? Some (codes ", rank ") ++? A.output b.rank };
+
+    fn fmt<W: fmt::Write>(&self, f: &mut fmt::Formatter<W>) -> fmt::Result {
+        let Both { tree, rank } = self;
+        write!(f, "tree {tree}, rank {rank}")
+    }
 }

@@ -4,7 +4,7 @@ ghost use Rattle.std.specs.Prelude.{◌<◌};
 use registers::rank::cell::{Cell, Link};
 use registers::tree::node::Node;
 
-#[derive(Drop)]
+#[derive(Clone, Copy)]
 pub struct Chance {
     state: u64,
 }
@@ -25,6 +25,7 @@ impl Chance {
 
     fn one_of(&mut self, choices: u32) -> u32
         requires { 0 < choices }
+        ensures { result < choices }
     {
         self.number() % choices
     }
@@ -32,38 +33,36 @@ impl Chance {
     // Half of the indices lead into the lent memory.
     fn index(&mut self, lent: u32) -> u32 {
         if lent > 0 && self.one_of(2) == 0 {
-            return self.one_of(lent);
+            self.one_of(lent)
+        } else {
+            self.number()
         }
-        self.number()
     }
 
     fn link(&mut self, lent: u32) -> Option<u32> {
         if self.one_of(4) == 0 {
-            return None;
+            None
+        } else {
+            Some(self.index(lent))
         }
-        Some(self.index(lent))
     }
 
     // Half of the codes are small, so that a script may well enter them.
     fn code(&mut self) -> u64 {
         if self.one_of(2) == 0 {
-            return self.one_of(64) as u64;
+            u64::from(self.one_of(64))
+        } else {
+            u64::from(self.number()) * 28
         }
-        self.number() as u64 * 28
     }
 
     pub fn node(&mut self, lent: u32) -> Node {
-        let code = self.code();
-        let mark = self.number();
-        let above = self.index(lent);
-        let low = self.link(lent);
-        let high = self.link(lent);
         Node {
-            code,
-            mark,
-            above,
-            low,
-            high,
+            code: self.code(),
+            mark: self.number(),
+            above: self.index(lent),
+            low: self.link(lent),
+            high: self.link(lent),
         }
     }
 

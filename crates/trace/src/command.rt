@@ -1,10 +1,10 @@
 // The commands of a script.
-ghost use Rattle.std.specs.Option.{MatchOption};
+ghost use Rattle.std.specs.Prelude.{MatchOption};
 ghost use Rattle.trace.specs.Script.{MarkOf, NoMark, LendOf, EnterOf, Known, Alone, Parsed};
 
 use sheets::words::{cut, cut_last, number};
 
-#[derive(Drop)]
+#[derive(Clone, Copy)]
 pub enum Command<'a> {
     // nothing to answer
     Blank,
@@ -31,11 +31,7 @@ fn lend<'a>(arguments: &[u8]) -> Option<Command<'a>>
 fn mark(text: &[u8]) -> Option<u32>
     ensures { MatchOption result (NoMark text.now) (MarkOf text.now) }
 {
-    let mark = number(text)?;
-    if mark > 4_294_967_295 {
-        return None;
-    }
-    Some(mark as u32)
+    u32::try_from(number(text)?).ok()
 }
 
 // The mark is the last word, and the key is all that stands before it, since how many words a key has depends on its kind.
@@ -51,52 +47,38 @@ fn enter<'a>(arguments: &'a [u8]) -> Option<Command<'a>>
 fn known<'a>(word: &[u8], arguments: &'a [u8]) -> Option<Command<'a>>
     ensures { Known word.now arguments.now result }
 {
-    if word == b"lend".as_slice() {
-        return lend(arguments);
+    match word {
+        b"lend" => lend(arguments),
+        b"enter" => enter(arguments),
+        b"find" => Some(Command::Find { key: arguments }),
+        _ => None,
     }
-    if word == b"enter".as_slice() {
-        return enter(arguments);
-    }
-    if word == b"find".as_slice() {
-        return Some(Command::Find { key: arguments });
-    }
-    None
 }
 
 // The command that a line without arguments makes, if it makes one.
 fn alone<'a>(line: &[u8]) -> Option<Command<'a>>
     ensures { Alone line.now result }
 {
-    if line == b"rows".as_slice() {
-        return Some(Command::Rows);
+    match line {
+        b"rows" => Some(Command::Rows),
+        b"clashes" => Some(Command::Clashes),
+        b"count" => Some(Command::Count),
+        b"back" => Some(Command::Back),
+        _ => None,
     }
-    if line == b"clashes".as_slice() {
-        return Some(Command::Clashes);
-    }
-    if line == b"count".as_slice() {
-        return Some(Command::Count);
-    }
-    if line == b"back".as_slice() {
-        return Some(Command::Back);
-    }
-    None
 }
 
 // What a line says.
 pub fn parse<'a>(line: &'a [u8]) -> Command<'a>
     ensures { Parsed line.now result }
 {
-    if line.is_empty() || line[0] == b'#' {
-        return Command::Blank;
-    }
-    let Some((word, arguments)) = cut(line, b' ') else {
-        return match alone(line) {
-            Some(command) => command,
-            None => Command::Unknown { word: line },
-        };
-    };
-    match known(word, arguments) {
-        Some(command) => command,
-        None => Command::Unknown { word },
+    match line {
+        [] | [b'#', ..] => Command::Blank,
+        _ => match cut(line, b' ') {
+            Some((word, arguments)) => {
+                known(word, arguments).unwrap_or(Command::Unknown { word })
+            }
+            None => alone(line).unwrap_or(Command::Unknown { word: line }),
+        },
     }
 }

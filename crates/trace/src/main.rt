@@ -5,16 +5,18 @@ mod answer;
 mod chance;
 mod command;
 mod memory;
+mod pair;
 mod script;
 mod written;
 
+use script::Script;
 use sheets::input::input;
 use std::io::{BufWriter, Write};
 
 fn run(rt: &HostRuntime) -> anyhow::Result<()> {
     let bytes = input(rt, "trace")?;
     let mut out = BufWriter::new(rt.alloc(), rt.stdout())?;
-    script::run(rt.alloc(), bytes.as_slice(), &mut out)?;
+    Script::of(rt.alloc(), &bytes, &mut out).answer()?;
     out.flush()?;
     Ok(())
 }

@@ -1,4 +1,6 @@
 // The memory that the registers are lent.
+ghost use Rattle.std.specs.Prelude.{◌≡◌, OnOk, vec_len};
+
 use crate::chance::Chance;
 use registers::rank::cell::Cell;
 use registers::tree::node::Node;
@@ -6,17 +8,34 @@ use std::alloc::{AllocError, Global};
 
 #[derive(Drop)]
 pub struct Memory {
-    heap: Global,
     chance: Chance,
     pub nodes: Vec<Node>,
     pub cells: Vec<Cell>,
 }
 
+// Fills a list anew with as many things of one make.
+fn refill<T: Drop, F: FnMut() -> T>(
+    list: &mut Vec<T>,
+    count: u32,
+    mut make: F,
+) -> Result<(), AllocError>
+    requires { F.IsAlwaysCallable make }
+    ensures { OnOk result (vec_len list.new ≡ count) }
+{
+    list.clear();
+    for _ in 0..count {
+        list.push(make())?;
+    }
+    Ok(())
+}
+
 impl Memory {
     // Nothing is lent yet.
-    pub fn new(heap: Global) -> Memory {
+    pub fn new(heap: Global) -> Memory
+        ensures nodes { vec_len result.nodes ≡ 0 }
+        ensures cells { vec_len result.cells ≡ 0 }
+    {
         Memory {
-            heap,
             chance: Chance::new(),
             nodes: Vec::new(heap),
             cells: Vec::new(heap),
@@ -24,17 +43,12 @@ impl Memory {
     }
 
     // New memory, full of garbage.
-    pub fn lend(&mut self, nodes: u32, cells: u32) -> Result<(), AllocError> {
-        self.nodes = Vec::new(self.heap);
-        self.cells = Vec::new(self.heap);
-        for _ in 0..nodes {
-            let node = self.chance.node(nodes);
-            self.nodes.push(node)?;
-        }
-        for _ in 0..cells {
-            let cell = self.chance.cell(cells);
-            self.cells.push(cell)?;
-        }
-        Ok(())
+    pub fn lend(&mut self, nodes: u32, cells: u32) -> Result<(), AllocError>
+        ensures nodes { OnOk result (vec_len self.new.nodes ≡ nodes) }
+        ensures cells { OnOk result (vec_len self.new.cells ≡ cells) }
+    {
+        let chance = &mut self.chance;
+        refill(&mut self.nodes, nodes, || chance.node(nodes))?;
+        refill(&mut self.cells, cells, || chance.cell(cells))
     }
 }

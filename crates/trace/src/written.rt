@@ -1,49 +1,51 @@
 // How the keys of a register are written in a script.
 ghost use Rattle.sheets.specs.Words.{digits};
 ghost use Rattle.trace.specs.Keys.{RowText, RowRefused, FormNumber, ClashWords, ClashRead, ClashRefused};
-ghost use Rattle.std.specs.Prelude.{◌≡◌, false, MatchOption, MatchResult};
+ghost use Rattle.trace.specs.declared.written.NoKey.{NoKey};
+ghost use Rattle.trace.specs.declared.written.NoKey.TheVariants.{Row as OfRow};
+ghost use Rattle.std.specs.Prelude.{◌≡◌, ℕ, false, List, Result, MatchOption, MatchResult};
 
 use registers::clash::ClashKey;
 use registers::key::Key;
 use rows::fault::RowFault;
 use rows::row::Row;
 use rows::stage::Stage;
-use sheets::print::refuse;
+use sheets::print::Refused;
 use sheets::words::{cut, number};
-use std::io;
-use std::io::{BufWriter, Stdout, Write};
+use thiserror::Error;
 
 // Why a text is no key.
-#[derive(Drop)]
+#[derive(Clone, Copy, Debug, Error)]
 pub enum NoKey {
+    #[error("{}", Refused(.0))]
     Row(RowFault),
+    #[error("no clash key")]
     Clash,
 }
 
-impl NoKey {
-    pub fn print(&self, word: &str, out: &mut BufWriter<Stdout>) -> io::Result<()> {
-        match self {
-            NoKey::Row(fault) => refuse(word, fault, out),
-            NoKey::Clash => writeln!(out, "{word}: no clash key"),
-        }
+impl From<RowFault> for NoKey {
+    ghost from_gives = { λ fault no. no ≡ OfRow fault };
+
+    fn from(fault: RowFault) -> NoKey {
+        NoKey::Row(fault)
     }
 }
 
 pub trait Written: Key {
-    fn read(text: &[u8]) -> Result<Self, NoKey>;
+    // what a text is read as
+    ghost reads: { List ℕ → Result Self NoKey → Type 0 };
+
+    fn read(text: &[u8]) -> Result<Self, NoKey>
+        ensures { reads text.now result };
 }
 
 // The row that a text spells on the stage of its length.
-fn read_row(text: &[u8]) -> Result<Row, NoKey>
-    ensures { MatchResult result (λ row. RowText text.now row.bells) (RowRefused text.now) }
-{
-    let stage = match Stage::new(text.len()) {
-        Ok(stage) => stage,
-        Err(fault) => return Err(NoKey::Row(fault)),
-    };
-    match Row::read(stage, text) {
-        Ok(row) => Ok(row),
-        Err(fault) => Err(NoKey::Row(fault)),
+impl Written for Row {
+    ghost reads = { λ text read. MatchResult read (λ row. RowText text row.bells) (RowRefused text) };
+
+    fn read(text: &[u8]) -> Result<Row, NoKey> {
+        let stage = Stage::new(text.len())?;
+        Ok(Row::read(stage, text)?)
     }
 }
 
@@ -52,10 +54,7 @@ fn form_number(text: &[u8]) -> Option<u8>
     ensures { MatchOption result (digits text.now ≡ false) (FormNumber text.now) }
 {
     let number = number(text)?;
-    if number > 255 {
-        return Some(255);
-    }
-    Some(number as u8)
+    Some(u8::try_from(number).unwrap_or(u8::MAX))
 }
 
 // The two form numbers and the row text.
@@ -69,30 +68,13 @@ fn clash_words<'a>(text: &'a [u8]) -> Option<(u8, u8, &'a [u8])>
     Some((p, q, row))
 }
 
-fn read_clash(text: &[u8]) -> Result<ClashKey, NoKey>
-    ensures { MatchResult result (λ key. ClashRead text.now key.first key.second key.row.bells) (ClashRefused text.now) }
-{
-    let Some((p, q, spelled)) = clash_words(text) else {
-        return Err(NoKey::Clash);
-    };
-    let row = match read_row(spelled) {
-        Ok(row) => row,
-        Err(fault) => return Err(fault),
-    };
-    match ClashKey::new(p, q, row) {
-        Some(key) => Ok(key),
-        None => Err(NoKey::Clash),
-    }
-}
-
-impl Written for Row {
-    fn read(text: &[u8]) -> Result<Row, NoKey> {
-        read_row(text)
-    }
-}
-
+// Two form numbers and a row.
 impl Written for ClashKey {
+    ghost reads = { λ text read. MatchResult read (λ key. ClashRead text key.first key.second key.row.bells) (ClashRefused text) };
+
     fn read(text: &[u8]) -> Result<ClashKey, NoKey> {
-        read_clash(text)
+        let (p, q, spelled) = clash_words(text).ok_or(NoKey::Clash)?;
+        let row = <Row as Written>::read(spelled)?;
+        ClashKey::new(p, q, row).ok_or(NoKey::Clash)
     }
 }

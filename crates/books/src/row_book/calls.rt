@@ -1,9 +1,9 @@
 // The calls of a row book.
-ghost use Rattle.std.specs.Prelude.{◌≡◌, ℕ, ◌*◌, ◌≤◌, min};
+ghost use Rattle.std.specs.Prelude.{◌≡◌, ℕ};
 ghost use Rattle.books.specs.Forms.{shapes, leads_in};
 ghost use Rattle.books.specs.Leads.{Shape, Lead as LeadModel, rows_of};
+ghost use Rattle.books.specs.Opening.{Large};
 ghost use Rattle.books.specs.Ringing.{Holds};
-ghost use Rattle.rows.specs.Code.{fact};
 
 use crate::book::Book;
 use crate::call::Certificate;
@@ -20,22 +20,18 @@ impl<'f, R: Register<Row>> Book for RowBook<'f, R> {
 
     ghost leads = { λ b. leads_in b.touch.leads.items };
 
-    ghost kept = { λ b. Holds (R.Register.entries b.register) (rows_of (shapes b.forms.now) (leads_in b.touch.leads.items)) × (fact b.stage.bells ≤ R.Register.reach b.register) × (min (fact b.stage.bells) (64 * b.limit) ≤ R.Register.capacity b.register) };
+    ghost kept = { λ b. Holds (R.Register.shelf b.register).entries (rows_of (shapes b.forms.now) (leads_in b.touch.leads.items)) × Large b.stage.bells b.limit (R.Register.shelf b.register) };
 
     fn count(&self) -> usize {
         self.touch.leads.len()
     }
 
     fn ring(&mut self, form: u8) -> Result<usize, RingFault> {
-        if form as usize >= self.forms.len() {
-            return Err(RingFault::Form);
-        }
+        let rung = self.forms.get(form as usize).ok_or(RingFault::Form)?;
         let stand = self.touch.leads.len();
         if stand >= self.limit {
             return Err(RingFault::Limit);
         }
-        let forms = self.forms;
-        let rung = &forms[form as usize];
         let head = self.touch.next;
         enter_rows(&mut self.register, &head, rung, self.touch.rows)?;
         self.touch.add(form, rung);
@@ -43,9 +39,7 @@ impl<'f, R: Register<Row>> Book for RowBook<'f, R> {
     }
 
     fn take_back(&mut self) -> Result<u8, TakeBackFault> {
-        let Some(lead) = self.touch.last() else {
-            return Err(TakeBackFault::Leads);
-        };
+        let lead = self.touch.last().ok_or(TakeBackFault::Leads)?;
         let rows = self.forms[lead.form as usize].changes.count;
         take_back_rows(&mut self.register, rows);
         self.touch.remove(rows);
@@ -58,7 +52,7 @@ impl<'f, R: Register<Row>> Book for RowBook<'f, R> {
         if leads == 0 {
             return Err(VerdictFault::Leads);
         }
-        if self.touch.next.bells != Row::rounds().bells {
+        if self.touch.next != Row::rounds() {
             return Err(VerdictFault::Head);
         }
         if rows != claimed {

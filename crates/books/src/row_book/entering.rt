@@ -1,9 +1,7 @@
 // Entering the rows of a lead in a register, and taking them back.
-ghost use Rattle.std.specs.Prelude.{◌≡◌, ◌+◌, ◌-◌, ◌^◌, ◌<◌, map, length, take};
+ghost use Rattle.std.specs.Prelude.{◌≡◌, ◌+◌, ◌^◌, ◌<◌, map};
 ghost use Rattle.books.specs.Forms.{shape};
-ghost use Rattle.books.specs.Ringing.{at_place, Enters};
-ghost use Rattle.registers.specs.Entries.{entering, entered};
-ghost use Rattle.rows.specs.Code.{code};
+ghost use Rattle.books.specs.Ringing.{without, row_answer, row_entered, Enters};
 ghost use Rattle.rows.specs.Rows.{times};
 
 use crate::fault::RingFault;
@@ -14,8 +12,7 @@ use rows::row::Row;
 
 // Takes back the last entries, as many of this number as there are.
 pub(crate) fn take_back_rows<R: Register<Row>>(register: &mut R, number: usize)
-    ensures list { R.Register.entries register.new ≡ take (length (R.Register.entries register.old) - number) (R.Register.entries register.old) }
-    ensures fixed { (R.Register.reach register.new ≡ R.Register.reach register.old) × (R.Register.capacity register.new ≡ R.Register.capacity register.old) }
+    ensures { R.Register.shelf register.new ≡ without number (R.Register.shelf register.old) }
 {
     for _ in 0..number {
         let _ = register.take_back();
@@ -25,9 +22,8 @@ pub(crate) fn take_back_rows<R: Register<Row>>(register: &mut R, number: usize)
 // Enters one row at its place; a row that is held already, and where.
 fn enter_row<R: Register<Row>>(register: &mut R, row: &Row, place: usize) -> Result<(), RingFault>
     requires { place < 2 ^ 32 }
-    ensures answer { result ≡ at_place place (entering (R.Register.reach register.old) (R.Register.capacity register.old) (R.Register.entries register.old) (code row.now.bells)) }
-    ensures list { R.Register.entries register.new ≡ entered (entering (R.Register.reach register.old) (R.Register.capacity register.old) (R.Register.entries register.old) (code row.now.bells)) (R.Register.entries register.old) (record { code = code row.now.bells; mark = place }) }
-    ensures fixed { (R.Register.reach register.new ≡ R.Register.reach register.old) × (R.Register.capacity register.new ≡ R.Register.capacity register.old) }
+    ensures answer { result ≡ row_answer place row.now.bells (R.Register.shelf register.old) }
+    ensures after { R.Register.shelf register.new ≡ row_entered place row.now.bells (R.Register.shelf register.old) }
 {
     match register.enter(row, place as u32)? {
         Entered::Added => Ok(()),
@@ -46,11 +42,10 @@ pub(crate) fn enter_rows<R: Register<Row>>(
     place: usize,
 ) -> Result<(), RingFault>
     requires { place + 64 < 2 ^ 32 }
-    ensures enters { Enters (R.Register.reach register.old) (R.Register.capacity register.old) (R.Register.entries register.old) place (map (times head.now.bells) (shape form.now).rows) result (R.Register.entries register.new) }
-    ensures fixed { (R.Register.reach register.new ≡ R.Register.reach register.old) × (R.Register.capacity register.new ≡ R.Register.capacity register.old) }
+    ensures { Enters (R.Register.shelf register.old) place (map (times head.now.bells) (shape form.now).rows) result (R.Register.shelf register.new) }
 {
-    for j in 0..form.changes.count {
-        let row = head.times(&form.rows[j]);
+    for (j, rung) in form.rows()[..form.changes.count].iter().enumerate() {
+        let row = head.times(rung);
         if let Err(fault) = enter_row(register, &row, place + j) {
             take_back_rows(register, j);
             return Err(fault);

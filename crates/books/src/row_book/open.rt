@@ -1,54 +1,41 @@
 // Opening a row book.
-ghost use Rattle.std.specs.Prelude.{◌≡◌, ◌≤◌, false, [], None, MatchResult};
-ghost use Rattle.books.specs.Opening.{Obstacle, RefusedFor};
+ghost use Rattle.std.specs.Prelude.{◌≡◌, ◌≤◌, false, [], MatchResult};
+ghost use Rattle.books.specs.Opening.{Openable, RefusedFor, Obstacle};
 ghost use Rattle.rows.specs.Code.{fact};
 
 use crate::fault::OpeningFault;
 use crate::row_book::state::RowBook;
 use crate::touch::Touch;
+use causes::Returned;
 use forms::list::{Forms, ListState};
 use registers::register::Register;
 use rows::row::Row;
 use rows::stage::Stage;
 use std::alloc::Global;
 
-// A register on which no book was opened, and why.
-#[derive(Drop)]
-pub struct Unopened<R> {
-    pub register: R,
-    pub fault: OpeningFault,
-}
-
 // n!
 fn factorial(bells: u8) -> u64
     requires { bells ≤ 12 }
     ensures { result ≡ fact bells }
 {
-    let mut product = 1;
-    for i in 1..bells as u64 + 1 {
-        product *= i;
-    }
-    product
+    (1..=u64::from(bells)).product()
 }
 
-// Why a book with this limit cannot be opened on this register, if it cannot.
-fn obstacle<R: Register<Row>>(stage: Stage, limit: usize, register: &R) -> Option<OpeningFault>
-    ensures { Obstacle stage.bells limit (R.Register.reach register.now) (R.Register.capacity register.now) (R.Register.entries register.now) result }
+// Whether a book with this limit can be opened on this register; a fault where it cannot.
+fn check<R: Register<Row>>(stage: Stage, limit: usize, register: &R) -> Result<(), OpeningFault>
+    ensures { Obstacle stage.bells limit (R.Register.shelf register.now) result }
 {
-    if limit < 1 || limit > 1280 {
-        return Some(OpeningFault::Limit);
+    if !(1..=1280).contains(&limit) {
+        return Err(OpeningFault::Limit);
     }
     if register.count() > 0 {
-        return Some(OpeningFault::Held);
+        return Err(OpeningFault::Held);
     }
     let rows = factorial(stage.bells);
-    if register.reach() < rows {
-        return Some(OpeningFault::Small);
+    if register.reach() < rows || (register.capacity() as u64) < rows.min(64 * limit as u64) {
+        return Err(OpeningFault::Small);
     }
-    if (register.capacity() as u64) < rows.min(64 * limit as u64) {
-        return Some(OpeningFault::Small);
-    }
-    None
+    Ok(())
 }
 
 impl<'f, R: Register<Row>> RowBook<'f, R> {
@@ -58,31 +45,34 @@ impl<'f, R: Register<Row>> RowBook<'f, R> {
         forms: &'f Forms<S>,
         limit: usize,
         register: R,
-    ) -> Result<RowBook<'f, R>, Unopened<R>>
+    ) -> Result<RowBook<'f, R>, Returned<R, OpeningFault>>
         requires { S.ListState.open ≡ false }
-        ensures opens { MatchResult result (λ _. Obstacle forms.now.stage.bells limit (R.Register.reach register) (R.Register.capacity register) (R.Register.entries register) None) (λ e. RefusedFor forms.now.stage.bells limit (R.Register.reach register) (R.Register.capacity register) (R.Register.entries register) e.fault) }
-        ensures stands { MatchResult result (λ b. (b.forms.now ≡ forms.now.list.items) × (b.stage ≡ forms.now.stage) × (b.limit ≡ limit) × (b.register ≡ register) × (b.touch.leads.items ≡ [])) (λ e. e.register ≡ register) }
+        ensures opens { MatchResult result (λ _. Openable forms.now.stage.bells limit (R.Register.shelf register)) (λ e. RefusedFor forms.now.stage.bells limit (R.Register.shelf register) e.fault) }
+        ensures stands { MatchResult result (λ b. (b.forms.now ≡ forms.now.list.items) × (b.stage ≡ forms.now.stage) × (b.limit ≡ limit) × (b.register ≡ register) × (b.touch.leads.items ≡ [])) (λ e. e.value ≡ register) }
     {
-        if let Some(fault) = obstacle(forms.stage(), limit, &register) {
-            return Err(Unopened { register, fault });
+        if let Err(fault) = check(forms.stage(), limit, &register) {
+            return Err(Returned {
+                value: register,
+                fault,
+            });
         }
-        match Vec::with_capacity(heap, limit) {
-            Ok(leads) => Ok(RowBook {
-                stage: forms.stage(),
-                forms: forms.all(),
-                limit,
-                touch: Touch {
-                    leads,
-                    next: Row::rounds(),
-                    rows: 0,
-                },
-                register,
-            }),
-            Err(_) => Err(Unopened {
-                register,
+        let Ok(leads) = Vec::with_capacity(heap, limit) else {
+            return Err(Returned {
+                value: register,
                 fault: OpeningFault::Memory,
-            }),
-        }
+            });
+        };
+        Ok(RowBook {
+            stage: forms.stage(),
+            forms: forms.all(),
+            limit,
+            touch: Touch {
+                leads,
+                next: Row::rounds(),
+                rows: 0,
+            },
+            register,
+        })
     }
 
     // The register, with what the book has entered in it.

@@ -1,8 +1,8 @@
 // The row book: the leads that stand, the next head, the length, and a register with every row at its place.
-ghost use Rattle.std.specs.Prelude.{◌≡◌, ◌≤◌, true, length, vec_len, vec_capacity};
-ghost use Rattle.books.specs.Forms.{shapes, leads_in, forms_known};
+ghost use Rattle.std.specs.Prelude.{◌≡◌, ◌≤◌, length, vec_len, vec_capacity};
+ghost use Rattle.books.specs.Forms.{shapes, leads_in, FormsKnown};
 ghost use Rattle.books.specs.Leads.{next_head, rows_of, Linked};
-ghost use Rattle.forms.specs.Staged.{forms_on};
+ghost use Rattle.forms.specs.Staged.{FormsOn};
 
 use crate::touch::Touch;
 use forms::form::Form;
@@ -19,8 +19,8 @@ pub struct RowBook<'f, R> {
     ghost small: { limit ≤ 1280 },
     // so that a ring never wants memory
     ghost room: { limit ≤ vec_capacity touch.leads },
-    ghost staged: { forms_on stage.bells forms.now ≡ true },
-    ghost known: { forms_known (length forms.now) touch.leads.items ≡ true },
+    ghost staged: { FormsOn stage.bells forms.now },
+    ghost known: { FormsKnown (length forms.now) touch.leads.items },
     ghost headed: { touch.next.bells ≡ next_head (shapes forms.now) (leads_in touch.leads.items) },
     ghost linked: { Linked (shapes forms.now) (leads_in touch.leads.items) },
     ghost long: { touch.rows ≡ length (rows_of (shapes forms.now) (leads_in touch.leads.items)) },

@@ -1,8 +1,12 @@
 // The calls of the rank table.
-ghost use Rattle.std.specs.Prelude.{◌≡◌, ◌<◌, [], ◌∷◌, ◌++◌, length, None};
-ghost use Rattle.registers.specs.Cells.{settled, end, previous, rank_entries};
-ghost use Rattle.registers.specs.Entries.{NoCodeTwice, marked, entering, entered, taking, taken};
-ghost use Rattle.registers.specs.Lent.{used, Beyond};
+#![tactic(auto, unfolding(crate::specs::Shelves::table_shelf))]
+
+ghost use Rattle.std.specs.Prelude.{◌≡◌, ◌<◌, ◌≤◌, length, None, Ok, MatchOption};
+ghost use Rattle.registers.specs.Cells.{cell_at, settled, end, previous};
+ghost use Rattle.registers.specs.Entries.{marked, entering, entered, taking, taken};
+ghost use Rattle.registers.specs.declared.entered.Entered.TheVariants.{Added};
+ghost use Rattle.registers.specs.Lent.{used, Kept};
+ghost use Rattle.registers.specs.Shelves.{empty_table, table_shelf, table_apart};
 
 use crate::entered::Entered;
 use crate::fault::RegisterFault;
@@ -11,54 +15,54 @@ use crate::lent::used;
 use crate::rank::cell::{Cell, Last, Link};
 use crate::rank::rank_table::RankTable;
 use crate::register::Register;
+use std::marker::PhantomData;
 
 impl<'a, K> RankTable<'a, K> {
     // An empty table; every cell that it uses is freed.
     pub fn new(cells: &'a mut [Cell]) -> RankTable<'a, K>
-        ensures empty { rank_entries result.cells.now result.last ≡ [] }
-        ensures lent { result.cells.ghost_name ≡ cells.entry.ghost_name }
-        ensures beyond { Beyond cells.old result.cells.now }
+        ensures empty { table_shelf result ≡ empty_table (length cells.old) }
+        ensures lent { Kept cells.entry result.cells }
     {
-        for i in 0..used(cells.len()) {
-            cells[i].link = Link::Free;
+        let used = used(cells.len());
+        for cell in &mut cells[..used] {
+            cell.link = Link::Free;
         }
         RankTable {
             cells,
             last: None,
-            keys: [],
+            keys: PhantomData,
         }
     }
 
     // How many cells are used: the reach, and the capacity too.
     fn room(&self) -> usize
-        ensures { result ≡ used (length self.now.cells.now) }
+        ensures { result ≡ (table_shelf self.now).capacity }
     {
         used(self.cells.len())
     }
 
     // How many entries there are.
     fn number(&self) -> usize
-        ensures { result ≡ length (rank_entries self.now.cells.now self.now.last) }
+        ensures { result ≡ length (table_shelf self.now).entries }
+    {
+        self.last.map_or(0, |last| last.count)
+    }
+
+    // The cell of a code below the reach; that of the last entry stands in the table itself.
+    fn cell(&self, code: u64) -> Option<Cell>
+        ensures { MatchOption result ((table_shelf self.now).reach ≤ code) (λ cell. (code < (table_shelf self.now).reach) × (cell ≡ cell_at (settled self.now.cells.now self.now.last) code)) }
     {
         match self.last {
-            None => 0,
-            Some(last) => last.count,
+            Some(last) if u64::from(last.code) == code => Some(last.cell),
+            _ => self.cells[..self.room()].get(code as usize).copied(),
         }
     }
 
     // The mark of the code, if it is held.
     fn mark_of(&self, code: u64) -> Option<u32>
-        ensures { result ≡ marked code (rank_entries self.now.cells.now self.now.last) }
+        ensures { result ≡ marked code (table_shelf self.now).entries }
     {
-        if let Some(last) = self.last {
-            if last.code as u64 == code {
-                return Some(last.cell.mark);
-            }
-        }
-        if code >= self.room() as u64 {
-            return None;
-        }
-        let cell = self.cells[code as usize];
+        let cell = self.cell(code)?;
         match cell.link {
             Link::Free => None,
             _ => Some(cell.mark),
@@ -69,31 +73,26 @@ impl<'a, K> RankTable<'a, K> {
     fn end(&self) -> Link
         ensures { result ≡ end self.now.last }
     {
-        match self.last {
-            None => Link::First,
-            Some(last) => Link::After(last.code),
-        }
+        self.last.map_or(Link::First, |last| Link::After(last.code))
     }
 
     // Fills the cell of the last entry, which is to be the last no more.
     fn settle(&mut self)
         ensures cells { self.new.cells.now ≡ settled self.old.cells.now self.old.last }
-        ensures lent { self.new.cells.ghost_name ≡ self.old.cells.ghost_name }
+        ensures loan { self.new.cells.ghost_name ≡ self.old.cells.ghost_name }
     {
-        let Some(last) = self.last else {
-            return;
-        };
-        self.cells[last.code as usize] = last.cell;
+        if let Some(last) = self.last {
+            self.cells[last.code as usize] = last.cell;
+        }
     }
 
     // One entry more; the cell of the one before it is filled.
     fn add(&mut self, code: u32, mark: u32)
-        requires code_bound { code < used (length self.old.cells.now) }
-        requires room { length (rank_entries self.old.cells.now self.old.last) < used (length self.old.cells.now) }
-        requires absent { marked code (rank_entries self.old.cells.now self.old.last) ≡ None }
-        ensures list { rank_entries self.new.cells.now self.new.last ≡ rank_entries self.old.cells.now self.old.last ++ record { code = code; mark = mark } ∷ [] }
-        ensures lent { self.new.cells.ghost_name ≡ self.old.cells.ghost_name }
-        ensures beyond { Beyond self.old.cells.now self.new.cells.now }
+        requires code_bound { code < (table_shelf self.old).reach }
+        requires room { length (table_shelf self.old).entries < (table_shelf self.old).capacity }
+        requires absent { marked code (table_shelf self.old).entries ≡ None }
+        ensures after { table_shelf self.new ≡ entered (Ok Added) (record { code = code; mark = mark }) (table_shelf self.old) }
+        ensures lent { Kept self.old.cells self.new.cells }
     {
         let link = self.end();
         let count = self.number() + 1;
@@ -105,32 +104,11 @@ impl<'a, K> RankTable<'a, K> {
         });
     }
 
-    fn enter_code(&mut self, code: u64, mark: u32) -> Result<Entered, RegisterFault>
-        ensures answer { result ≡ entering (used (length self.old.cells.now)) (used (length self.old.cells.now)) (rank_entries self.old.cells.now self.old.last) code }
-        ensures list { rank_entries self.new.cells.now self.new.last ≡ entered result (rank_entries self.old.cells.now self.old.last) (record { code = code; mark = mark }) }
-        ensures lent { self.new.cells.ghost_name ≡ self.old.cells.ghost_name }
-        ensures beyond { Beyond self.old.cells.now self.new.cells.now }
-    {
-        if code >= self.room() as u64 {
-            return Err(RegisterFault::Reach);
-        }
-        if let Some(held) = self.mark_of(code) {
-            return Ok(Entered::Held(held));
-        }
-        if self.number() >= self.room() {
-            return Err(RegisterFault::Full);
-        }
-        self.add(code as u32, mark);
-        Ok(Entered::Added)
-    }
-
     // The entry before the last one, read from its own cell.
     fn previous(&self) -> Option<Last>
         ensures { result ≡ previous self.now.cells.now self.now.last }
     {
-        let Some(last) = self.last else {
-            return None;
-        };
+        let last = self.last?;
         match last.cell.link {
             Link::After(code) => Some(Last {
                 code,
@@ -140,28 +118,12 @@ impl<'a, K> RankTable<'a, K> {
             _ => None,
         }
     }
-
-    fn take_last(&mut self) -> Result<u32, RegisterFault>
-        ensures answer { result ≡ taking (rank_entries self.old.cells.now self.old.last) }
-        ensures list { rank_entries self.new.cells.now self.new.last ≡ taken (rank_entries self.old.cells.now self.old.last) }
-        ensures lent { self.new.cells.ghost_name ≡ self.old.cells.ghost_name }
-        ensures beyond { Beyond self.old.cells.now self.new.cells.now }
-    {
-        let Some(last) = self.last else {
-            return Err(RegisterFault::Empty);
-        };
-        self.cells[last.code as usize].link = Link::Free;
-        self.last = self.previous();
-        Ok(last.cell.mark)
-    }
 }
 
 impl<'a, K: Key> Register<K> for RankTable<'a, K> {
-    ghost reach = { λ t. used (length t.cells.now) };
+    ghost shelf = { table_shelf };
 
-    ghost capacity = { λ t. used (length t.cells.now) };
-
-    ghost entries = { λ t. rank_entries t.cells.now t.last };
+    ghost apart = { table_apart };
 
     fn reach(&self) -> u64 {
         self.room() as u64
@@ -172,14 +134,22 @@ impl<'a, K: Key> Register<K> for RankTable<'a, K> {
     }
 
     fn enter(&mut self, key: &K, mark: u32) -> Result<Entered, RegisterFault>
-        ensures answer { result ≡ entering (used (length self.old.cells.now)) (used (length self.old.cells.now)) (rank_entries self.old.cells.now self.old.last) (K.Key.code key.now) }
-        ensures list { rank_entries self.new.cells.now self.new.last ≡ entered result (rank_entries self.old.cells.now self.old.last) (record { code = K.Key.code key.now; mark = mark }) }
-        ensures fixed { (used (length self.new.cells.now) ≡ used (length self.old.cells.now)) × (used (length self.new.cells.now) ≡ used (length self.old.cells.now)) }
-        ensures apart { NoCodeTwice (rank_entries self.new.cells.now self.new.last) }
-        ensures lent { self.new.cells.ghost_name ≡ self.old.cells.ghost_name }
-        ensures beyond { Beyond self.old.cells.now self.new.cells.now }
+        ensures answer { result ≡ entering (table_shelf self.old) (K.Key.code key.now) }
+        ensures after { table_shelf self.new ≡ entered result (record { code = K.Key.code key.now; mark = mark }) (table_shelf self.old) }
+        ensures lent { Kept self.old.cells self.new.cells }
     {
-        self.enter_code(key.code(), mark)
+        let code = key.code();
+        if code >= self.reach() {
+            return Err(RegisterFault::Reach);
+        }
+        if let Some(held) = self.mark_of(code) {
+            return Ok(Entered::Held(held));
+        }
+        if self.count() >= self.capacity() {
+            return Err(RegisterFault::Full);
+        }
+        self.add(code as u32, mark);
+        Ok(Entered::Added)
     }
 
     fn find(&self, key: &K) -> Option<u32> {
@@ -191,13 +161,13 @@ impl<'a, K: Key> Register<K> for RankTable<'a, K> {
     }
 
     fn take_back(&mut self) -> Result<u32, RegisterFault>
-        ensures answer { result ≡ taking (rank_entries self.old.cells.now self.old.last) }
-        ensures list { rank_entries self.new.cells.now self.new.last ≡ taken (rank_entries self.old.cells.now self.old.last) }
-        ensures fixed { (used (length self.new.cells.now) ≡ used (length self.old.cells.now)) × (used (length self.new.cells.now) ≡ used (length self.old.cells.now)) }
-        ensures apart { NoCodeTwice (rank_entries self.new.cells.now self.new.last) }
-        ensures lent { self.new.cells.ghost_name ≡ self.old.cells.ghost_name }
-        ensures beyond { Beyond self.old.cells.now self.new.cells.now }
+        ensures answer { result ≡ taking (table_shelf self.old) }
+        ensures after { table_shelf self.new ≡ taken (table_shelf self.old) }
+        ensures lent { Kept self.old.cells self.new.cells }
     {
-        self.take_last()
+        let last = self.last.ok_or(RegisterFault::Empty)?;
+        self.cells[last.code as usize].link = Link::Free;
+        self.last = self.previous();
+        Ok(last.cell.mark)
     }
 }

@@ -1,56 +1,44 @@
-use Rattle.std.proofs.Common.{◌-◌, length, refl, ap, ◌∙◌, arith}
-use Rattle.books.proofs.Rung.{not_moved, length_rung, given_at, given_all, none_rung, none_reached, which_lead, back_to, rings_one, reaches_one, stops_there, rings_all, reaches_all}
+use Rattle.std.proofs.Common.{◌≡◌, length, refl, ap, ◌∙◌, subst, sym, arith}
+use Rattle.books.proofs.Rung.{not_moved, length_rung, rung_more, reached_more, given_at, given_all, which_lead, back_to}
 use Rattle.books.proofs.play.play.Goals as goal
-use Rattle.std.specs.List.{slice_get}
+use Rattle.books.specs.Law.{Reached}
+use Rattle.books.specs.Leads.{rung}
+use Rattle.std.proofs.lemmas.List.{take_all}
 
 pub loop-number-init : goal.loop-number-init
-loop-number-init g c =
-    let book = c.args.book.now in
-    let forms = g.B.Book.forms book in
-    let start = g.B.Book.leads book in
-    let list = g.S.Source.list c.rewind.new.self in
-    let i = g.S.Source.given c.rewind.new.self in
-    let none = c.rewind.ensures.given in
-    (refl, refl, refl, omega (arith, none), none_rung forms start list i none, λ k. (k, none_reached forms start list i (g.B.Book.limit book) none))
+unfolding rung
+loop-number-init g c = rw c.rewind.ensures.given (record {
+  same_forms = refl;
+  same_limit = refl;
+  same_list = refl;
+  within = omega arith;
+  leads_are = refl;
+  law = λ k. (k, (omega arith, λ i l. absurd (omega arith)));
+})
 
 pub overflow_sub-lead : goal.overflow_sub-lead
 overflow_sub-lead g c =
     let inv = c.loop-number.invariant in
-    let book = c.loop-number.book in
-    let after = g.B.Book.leads c.ring.new.self in
-    let stays = not_moved (g.B.Book.forms book) (g.B.Book.limit book) (g.B.Book.leads book) c.in-Some.number c.in-Err.fault after c.in-Err.ensures.moves in
-    (which_lead (g.B.Book.forms c.args.book.now) (g.B.Book.leads c.args.book.now) (g.S.Source.list c.rewind.new.self) (g.S.Source.given c.loop-number.source) after c.count.result c.count-stand.result inv.3 (stays ∙ inv.4) c.count.ensures c.count-stand.ensures).0
+    let are = not_moved _ _ _ _ _ _ _ c.in-Err.ensures.moves inv.leads_are in
+    (which_lead _ _ _ _ inv.within _ are _ _ c.count.ensures c.count-stand.ensures).0
 
-pub returns-in-Err : goal.returns-in-Err
-returns-in-Err g c =
+pub returns-in-Err-clause-moves : goal.returns-in-Err-clause-moves
+returns-in-Err-clause-moves g c =
     let inv = c.loop-number.invariant in
-    let book = c.loop-number.book in
-    let forms = g.B.Book.forms c.args.book.now in
-    let limit = g.B.Book.limit c.args.book.now in
-    let start = g.B.Book.leads c.args.book.now in
-    let list = g.S.Source.list c.rewind.new.self in
-    let i = g.S.Source.given c.loop-number.source in
-    let number = c.in-Some.number in
-    let stand = c.count-stand.result in
-    let d = c.in-Some.ensures in
-    let e = c.in-Err.ensures in
-    let b = c.take_back_to.ensures in
-    let same_list = c.rewind.ensures.list in
-    let at = given_at list i number (d.answer ∙ ap (λ xs. slice_get xs i) inv.2) in
-    let after = g.B.Book.leads c.ring.new.self in
-    let are = not_moved (g.B.Book.forms book) (g.B.Book.limit book) (g.B.Book.leads book) number c.in-Err.fault after e.moves ∙ inv.4 in
-    let lead = (which_lead forms start list i after c.count.result stand inv.3 are c.count.ensures c.count-stand.ensures).1 in
-    record {
-      still = (b.still.0 ∙ (e.still.0 ∙ inv.0), b.still.1 ∙ (e.still.1 ∙ inv.1));
-      source = (c.rewind-in-Err.ensures.list ∙ (d.list ∙ (inv.2 ∙ same_list)), c.rewind-in-Err.ensures.given);
-      moves = (omega (arith, lead, at.0, ap length same_list), back_to forms start list i after (g.B.Book.leads c.take_back_to.new.book) stand are c.count-stand.ensures b.leads);
-      law = λ k.
-          let so_far = inv.5 k in
-          let t = e.law so_far.0 in (
-            b.law t.0,
-            stops_there forms start list i limit (g.B.Book.forms book) (g.B.Book.limit book) (g.B.Book.leads book) number inv.0 inv.1 inv.4 at.1 c.in-Err.fault (g.S.Source.list c.args.source.now) (c.count.result - stand) same_list lead so_far.1 t.1,
-          );
-    }
+    let at = given_at (g.S.Source.list c.rewind.new.self) (g.S.Source.given c.loop-number.source) c.in-Some.number (rw inv.same_list at c.in-Some.ensures.answer) in
+    let are = not_moved _ _ _ _ _ _ _ c.in-Err.ensures.moves inv.leads_are in
+    let lead = (which_lead _ _ _ _ inv.within _ are _ _ c.count.ensures c.count-stand.ensures).1 in
+    (omega (arith, lead, at.0, ap length c.rewind.ensures.list), c.take_back_to.ensures.leads ∙ back_to _ _ _ _ inv.within _ are _ c.count-stand.ensures)
+
+pub returns-in-Err-clause-law : goal.returns-in-Err-clause-law
+returns-in-Err-clause-law g c = λ k.
+    let inv = c.loop-number.invariant in
+    let at = given_at (g.S.Source.list c.rewind.new.self) (g.S.Source.given c.loop-number.source) c.in-Some.number (rw inv.same_list at c.in-Some.ensures.answer) in
+    let are = not_moved _ _ _ _ _ _ _ c.in-Err.ensures.moves inv.leads_are in
+    let lead = (which_lead _ _ _ _ inv.within _ are _ _ c.count.ensures c.count-stand.ensures).1 in
+    let so_far = inv.law k in
+    let t = rw (inv.same_forms, inv.same_limit, inv.leads_are, at.1) at c.in-Err.ensures.law so_far.0 in
+    (c.take_back_to.ensures.law t.0, rw (lead, ← c.rewind.ensures.list) (so_far.1, t.1))
 
 pub loop-number-smaller : goal.loop-number-smaller
 loop-number-smaller g c =
@@ -61,44 +49,42 @@ loop-number-smaller g c =
 pub loop-number-preserved : goal.loop-number-preserved
 loop-number-preserved g c =
     let inv = c.loop-number.invariant in
-    let book = c.loop-number.book in
     let forms = g.B.Book.forms c.args.book.now in
-    let limit = g.B.Book.limit c.args.book.now in
     let start = g.B.Book.leads c.args.book.now in
     let list = g.S.Source.list c.rewind.new.self in
     let i = g.S.Source.given c.loop-number.source in
-    let j = g.S.Source.given c.next.new.self in
-    let number = c.in-Some.number in
     let d = c.in-Some.ensures in
     let e = c.in_default-ring.ensures in
-    let at = given_at list i number (d.answer ∙ ap (λ xs. slice_get xs i) inv.2) in (
-      e.still.0 ∙ inv.0,
-      e.still.1 ∙ inv.1,
-      d.list ∙ inv.2,
-      omega (arith, d.given, at.0),
-      rings_one forms start list i limit (g.B.Book.forms book) (g.B.Book.limit book) (g.B.Book.leads book) number inv.0 inv.1 inv.4 at.1 c.in_default-ring.field-0 (g.B.Book.leads c.ring.new.self) j at.0 d.given e.moves,
-      λ k.
-          let so_far = inv.5 k in
-          let t = e.law so_far.0 in
-          (t.0, reaches_one forms start list i limit (g.B.Book.forms book) (g.B.Book.limit book) (g.B.Book.leads book) number inv.0 inv.1 inv.4 at.1 j at.0 d.given so_far.1 t.1),
-    )
+    let at = given_at list i c.in-Some.number (rw inv.same_list at d.answer) in
+    let moves = rw (inv.same_forms, inv.same_limit, inv.leads_are, at.1) at e.moves in
+    rw d.given (record {
+      same_forms = e.still.0 ∙ inv.same_forms;
+      same_limit = e.still.1 ∙ inv.same_limit;
+      same_list = d.list ∙ inv.same_list;
+      within = omega (arith, at.0);
+      leads_are = moves.2 ∙ sym (rung_more forms start list i at.0);
+      law = λ k.
+          let so_far = inv.law k in
+          let t = rw (inv.same_forms, inv.same_limit, inv.leads_are, at.1) at e.law so_far.0 in
+          (t.0, reached_more forms (g.B.Book.limit c.args.book.now) start list i at.0 so_far.1 t.1);
+    })
 
-pub returns : goal.returns
-returns g c =
+pub returns-clause-moves : goal.returns-clause-moves
+returns-clause-moves g c =
     let inv = c.loop-number.invariant in
     let forms = g.B.Book.forms c.args.book.now in
-    let limit = g.B.Book.limit c.args.book.now in
     let start = g.B.Book.leads c.args.book.now in
     let list = g.S.Source.list c.rewind.new.self in
-    let given_list = g.S.Source.list c.args.source.now in
     let i = g.S.Source.given c.loop-number.source in
-    let d = c.in_default.ensures in
-    let end = given_all list i (d.answer ∙ ap (λ xs. slice_get xs i) inv.2) in
-    let same_list = c.rewind.ensures.list in
-    let are = rings_all forms start list i (g.B.Book.leads c.loop-number.book) given_list end same_list inv.4 in
-    record {
-      still = (inv.0, inv.1);
-      source = (c.rewind-2.ensures.list ∙ (d.list ∙ (inv.2 ∙ same_list)), c.rewind-2.ensures.given);
-      moves = (c.count-2.ensures ∙ (ap length are ∙ length_rung forms start given_list), are);
-      law = λ k. let so_far = inv.5 k in (so_far.0, reaches_all forms start list i limit given_list end same_list so_far.1);
-    }
+    let end = given_all list i (rw inv.same_list at c.in_default.ensures.answer) in
+    let are = inv.leads_are ∙ ap (rung forms start) (take_all i list end) in
+    rw (← c.rewind.ensures.list) (c.count-2.ensures ∙ ap length are ∙ length_rung forms start list, are)
+
+pub returns-clause-law : goal.returns-clause-law
+returns-clause-law g c = λ k.
+    let inv = c.loop-number.invariant in
+    let list = g.S.Source.list c.rewind.new.self in
+    let i = g.S.Source.given c.loop-number.source in
+    let end : i ≡ length list = omega (arith, inv.within, given_all list i (rw inv.same_list at c.in_default.ensures.answer)) in
+    let so_far = inv.law k in
+    (so_far.0, rw (← c.rewind.ensures.list) (subst (Reached (g.B.Book.forms c.args.book.now) (g.B.Book.limit c.args.book.now) (g.B.Book.leads c.args.book.now) list) end so_far.1))

@@ -9,11 +9,15 @@ invariant-loop-number g l =
     let limit = g.B.Book.limit l.initial.book in
     let start = g.B.Book.leads l.initial.book in
     let list = g.S.Source.list l.initial.source in
-    let goal = g.S.Source.given l.source in
-    (g.B.Book.forms l.book ≡ forms) × (g.B.Book.limit l.book ≡ limit)
-    × (g.S.Source.list l.source ≡ list) × (goal ≤ length list)
-    × (g.B.Book.leads l.book ≡ rung forms start (take goal list))
-    × (g.B.Book.kept l.initial.book → g.B.Book.kept l.book × Reached forms limit start list goal)
+    let i = g.S.Source.given l.source in
+    record {
+      same_forms : g.B.Book.forms l.book ≡ forms;
+      same_limit : g.B.Book.limit l.book ≡ limit;
+      same_list : g.S.Source.list l.source ≡ list;
+      within : i ≤ length list;
+      leads_are : g.B.Book.leads l.book ≡ rung forms start (take i list);
+      law : g.B.Book.kept l.initial.book → g.B.Book.kept l.book × Reached forms limit start list i;
+    }
 
 abbrev pub decreases-loop-number : goal.decreases-loop-number
 decreases-loop-number g l = length (g.S.Source.list l.source) - g.S.Source.given l.source

@@ -1,52 +1,29 @@
-use Rattle.std.proofs.Common.{◌≡◌, ◌+◌, ◌-◌, ◌++◌, map, length, get_or, take, set, sym, ap, ◌∙◌, arith}
-use lib.Seq.{paste}
+use Rattle.std.proofs.Common.{◌≡◌, ℕ, ◌+◌, ◌-◌, ◌≤◌, List, ◌++◌, map, length, take, sym, ap, ◌∙◌, append_assoc, arith}
 use Rattle.forms.proofs.ending.with_ending.Goals as goal
-use Rattle.forms.proofs.ending.with_ending.Goals.{After-loop-k}
 use Rattle.notation.proofs.Drafting.{listed_long, made_in}
 use Rattle.notation.specs.Drafts.{listed}
-use Rattle.std.proofs.lemmas.List.Edits.{paste_none, paste_more, length-paste, take-paste}
-use Rattle.std.proofs.lemmas.List.{map-append, take-map, take-take}
+use Rattle.notation.specs.declared.change.Change.{Change}
+use Rattle.std.proofs.Math.Seq.{take-append_seam}
+use Rattle.std.proofs.lemmas.List.{length-append, length-map, length-take-le, map-append, take-map, take-take}
 
-pub returns-then-lead-ending : goal.returns-then-lead-ending
-returns-then-lead-ending c = omega (arith, listed_long c.args.lead.now, listed_long c.args.ending.now)
-
-pub loop-k-init : goal.loop-k-init
-loop-k-init c = paste_none c.args.lead.now.list (c.args.lead.now.count - c.args.ending.now.count) c.args.ending.now.list
-
-pub loop-k-preserved : goal.loop-k-preserved
-loop-k-preserved c =
-    let lead = c.args.lead.now in
-    let ending = c.args.ending.now in
-    ap (λ l. set l (lead.count - ending.count + c.loop-k.k) (get_or ending.list c.loop-k.k c.index-ending-k.result)) c.loop-k.invariant
-    ∙ paste_more lead.list (lead.count - ending.count) ending.list c.loop-k.k c.index-ending-k.result (omega (arith, lead.room, lead.few)) (omega (arith, ending.room, ending.few))
-
--- the array has the end of the lead replaced
-pasted : (c : After-loop-k) → c.loop-k.list ≡ paste c.args.lead.now.list (c.args.lead.now.count - c.args.ending.now.count) c.args.ending.now.list c.args.ending.now.count
-pasted c =
-    let ends : c.loop-k.k ≡ c.args.ending.now.count = omega arith in
-    c.loop-k.invariant ∙ ap (paste c.args.lead.now.list (c.args.lead.now.count - c.args.ending.now.count) c.args.ending.now.list) ends
-
-pub invariant_of-result : goal.invariant_of-result
-invariant_of-result c =
-    let lead = c.args.lead.now in
-    let ending = c.args.ending.now in
-    record { room = ap length (pasted c) ∙ (length-paste lead.list (lead.count - ending.count) ending.list ending.count (omega (arith, lead.room, lead.few)) (omega (arith, ending.room, ending.few)) ∙ lead.room); few = lead.few }
+-- the first n of a list whose end is replaced by as many
+replaced : (lead ending rest : List Change) (n from : ℕ) → n ≤ length lead → from + length ending ≡ n → map made_in (take n (take from lead ++ (ending ++ rest))) ≡ take from (map made_in (take n lead)) ++ map made_in ending
+replaced lead ending rest n from l e =
+    let kept : List Change = take from lead in
+    let whole : n ≡ length (kept ++ ending) = omega (arith, length-append kept ending, length-take-le from lead (omega arith)) in
+    let first : take from (map made_in (take n lead)) ≡ map made_in kept = take-map made_in from (take n lead) ∙ ap (map made_in) (take-take from n lead (omega arith)) in
+    ap (λ l. map made_in (take n l)) (sym (append_assoc kept ending rest)) ∙ ap (λ k. map made_in (take k ((kept ++ ending) ++ rest))) whole ∙ ap (map made_in) (take-append_seam (kept ++ ending) rest)
+    ∙ map-append made_in kept ending ∙ ap (λ l. l ++ map made_in ending) (sym first)
 
 pub returns : goal.returns
 returns c =
     let lead = c.args.lead.now in
     let ending = c.args.ending.now in
-    let from = lead.count - ending.count in
-    let leads = listed_long lead in
-    let ends = listed_long ending in
-    let whole : lead.count ≡ from + ending.count = omega arith in
-    let cut : from ≡ length (listed lead) - length (listed ending) = omega arith in (
-      omega arith,
-      ap (λ l. map made_in (take lead.count l)) (pasted (goal.at.returns c).After-loop-k)
-          ∙ ap (λ k. map made_in (take k (paste lead.list from ending.list ending.count))) whole
-          ∙ ap (map made_in) (take-paste lead.list from ending.list ending.count (omega (arith, lead.room, lead.few)) (omega (arith, ending.room, ending.few)))
-          ∙ map-append made_in (take from lead.list) (take ending.count ending.list)
-          ∙ ap (λ l. map made_in l ++ listed ending) (sym (take-take from lead.count lead.list (omega arith)))
-          ∙ ap (λ l. l ++ listed ending) (sym (take-map made_in from (take lead.count lead.list)))
-          ∙ ap (λ k. take k (listed lead) ++ listed ending) cut,
-    )
+    let fits = c.in_ok-from.ensures in
+    let room = lead.room in
+    let few = lead.few in
+    let long = listed_long lead in
+    let short = listed_long ending in
+    let copied : map made_in c.copy_from_slice.new.self ≡ listed ending = ap (map made_in) (c.copy_from_slice.ensures.after ∙ c.as_slice.ensures) in
+    let cut : c.in_ok-from.from ≡ length (listed lead) - length (listed ending) = omega arith in
+    (omega arith, replaced lead.list c.copy_from_slice.new.self _ lead.count c.in_ok-from.from (omega arith) (omega (arith, ap length copied, length-map c.copy_from_slice.new.self made_in)) ∙ (λ i. take (cut i) (listed lead) ++ copied i))

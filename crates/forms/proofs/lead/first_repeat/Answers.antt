@@ -1,16 +1,15 @@
-use Rattle.std.proofs.Common.{sym, refl, ◌∙◌, arith, below_more}
-use Rattle.forms.proofs.Leading.{bells_at}
+use Rattle.std.proofs.Common.{sym, ◌∙◌, arith, below_more}
+use Rattle.forms.proofs.Leading.{compared}
 use Rattle.forms.proofs.lead.first_repeat.Goals as goal
 use Rattle.std.proofs.lemmas.Bool.{false≢true}
+use Rattle.std.proofs.lemmas.List.{length-take-le}
 
 pub loop-i-preserved : goal.loop-i-preserved
 loop-i-preserved c =
-    let ri = bells_at c.args.rows.now c.loop-i.i c.index-rows-i.result (omega arith) in
-    let rj = bells_at c.args.rows.now c.loop-j.j c.index-rows-j.result (omega arith) in
-    below_more _ _ c.loop-i.invariant (λ e. false≢true (c.if-eq.ensures.decides.1 (ri ∙ e ∙ sym rj)))
+    let same = compared c.args.rows.now c.loop-i.i c.loop-j.j c.earlier-item.result c.index-rows-j.result c.loop-i-test.true c.loop-j-test.true c.earlier-item.is c.index-rows-j.is in
+    below_more _ _ c.loop-i.invariant (λ e. false≢true (c.if-eq.ensures ∙ same.1 e))
 
 pub returns-then-eq : goal.returns-then-eq
 returns-then-eq c =
-    let ri = bells_at c.args.rows.now c.loop-i.i c.index-rows-i.result (omega arith) in
-    let rj = bells_at c.args.rows.now c.loop-j.j c.index-rows-j.result (omega arith) in
-    (omega arith, omega arith, sym ri ∙ c.if-eq.ensures.decides.0 refl ∙ rj, c.loop-j.invariant)
+    let same = compared c.args.rows.now c.loop-i.i c.loop-j.j c.earlier-item.result c.index-rows-j.result c.loop-i-test.true c.loop-j-test.true c.earlier-item.is c.index-rows-j.is in
+    (c.loop-j-test.true, omega (arith, length-take-le c.loop-j.j c.args.rows.now (omega arith)), same.0 (sym c.if-eq.ensures), c.loop-j.invariant)

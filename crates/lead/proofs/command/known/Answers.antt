@@ -1,26 +1,13 @@
-use Rattle.std.proofs.Common.{sym, ◌∙◌}
-use Rattle.lead.proofs.Saying.{known_stage, known_method, known_call, known_none}
+use Rattle.std.proofs.Common.{codes, rules}
+use Rattle.lead.proofs.Saying.{known_stage, known_method, known_call}
 use Rattle.lead.proofs.command.known.Goals as goal
-use Rattle.std.proofs.lemmas.Slice.Eq.{slice_eq-Decides}
-use Rattle.std.proofs.lemmas.Bool.{true≢false}
-use Rattle.std.proofs.lemmas.Bool.Decides.{Decides-eqb}
+use Rattle.sheets.proofs.Reading.{reads}
 
-pub returns-then-eq : goal.returns-then-eq
-returns-then-eq c =
-    known_stage c.args.word.now c.args.arguments.now c.stage.result ((slice_eq-Decides Decides-eqb c.args.word.now c.as_slice.result.now c.eq.result c.eq.ensures).0 c.if-eq.true ∙ c.as_slice.ensures) c.stage.ensures
+pub returns-in-stage : goal.returns-in-stage
+returns-in-stage c = let word = c.args.word.now in known_stage word c.args.arguments.now c.stage.result (reads word (codes "stage") (search rules)) c.stage.ensures
 
-pub returns-then-eq-2 : goal.returns-then-eq-2
-returns-then-eq-2 c =
-    known_method c.args.word.now c.args.arguments.now c.method.result ((slice_eq-Decides Decides-eqb c.args.word.now c.as_slice-2.result.now c.eq-2.result c.eq-2.ensures).0 c.if-eq-2.true ∙ c.as_slice-2.ensures) c.method.ensures
+pub returns-in-method : goal.returns-in-method
+returns-in-method c = let word = c.args.word.now in known_method word c.args.arguments.now c.method.result (reads word (codes "method") (search rules)) c.method.ensures
 
-pub returns-then-eq-3 : goal.returns-then-eq-3
-returns-then-eq-3 c =
-    known_call c.args.word.now c.args.arguments.now c.call.result ((slice_eq-Decides Decides-eqb c.args.word.now c.as_slice-3.result.now c.eq-3.result c.eq-3.ensures).0 c.if-eq-3.true ∙ c.as_slice-3.ensures) c.call.ensures
-
-pub returns : goal.returns
-returns c =
-    let word = c.args.word.now in
-    known_none word c.args.arguments.now
-    (λ e. true≢false (sym ((slice_eq-Decides Decides-eqb word c.as_slice.result.now c.eq.result c.eq.ensures).1 (e ∙ sym c.as_slice.ensures)) ∙ c.if-eq.false))
-    (λ e. true≢false (sym ((slice_eq-Decides Decides-eqb word c.as_slice-2.result.now c.eq-2.result c.eq-2.ensures).1 (e ∙ sym c.as_slice-2.ensures)) ∙ c.if-eq-2.false))
-    (λ e. true≢false (sym ((slice_eq-Decides Decides-eqb word c.as_slice-3.result.now c.eq-3.result c.eq-3.ensures).1 (e ∙ sym c.as_slice-3.ensures)) ∙ c.if-eq-3.false))
+pub returns-in-call : goal.returns-in-call
+returns-in-call c = let word = c.args.word.now in known_call word c.args.arguments.now c.call.result (reads word (codes "call") (search rules)) c.call.ensures

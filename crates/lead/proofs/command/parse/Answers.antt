@@ -1,22 +1,9 @@
-use Rattle.std.proofs.Common.{◌<◌, length, sym, refl, arith}
-use Rattle.lead.proofs.Saying.{not_blank, says_known, says_unknown, unknown_whole}
+use Rattle.std.proofs.Common.{arith}
+use Rattle.lead.proofs.Saying.{says}
 use Rattle.lead.proofs.command.parse.Goals as goal
-use Rattle.std.proofs.lemmas.Bool.{eqb-false}
+use Rattle.sheets.proofs.Parting.{not_blank}
 
-pub returns-in_default : goal.returns-in_default
-returns-in_default c =
-    let t = c.args.line.now in
-    let some : 0 < length t = omega (arith, eqb-false (length t) 0 (sym c.if-is_empty.ensures)) in
-    unknown_whole t c.args.line refl c.in_default.ensures (not_blank t some c.if-line-eq35.false)
-
-pub returns-in-Some-known : goal.returns-in-Some-known
-returns-in-Some-known c =
-    let told = c.in-Some.ensures in
-    says_known c.args.line.now c.in-Some.word c.in-Some.arguments told.0 told.1 told.2 c.in-Some-known.command c.in-Some-known.ensures
-
-pub returns-in-None : goal.returns-in-None
-returns-in-None c =
-    let t = c.args.line.now in
-    let some : 0 < length t = omega (arith, eqb-false (length t) 0 (sym c.if-is_empty.ensures)) in
-    let told = c.in-Some.ensures in
-    says_unknown t c.in-Some.word c.in-Some.arguments told.0 told.1 told.2 (not_blank t some c.if-line-eq35.false) c.in-None.ensures
+pub returns-in-Some : goal.returns-in-Some
+returns-in-Some c =
+    let line = c.args.line.now in
+    says line c.in-Some.word c.in-Some.arguments c.in-Some.ensures c.known.result c.unwrap_or.result (not_blank line (omega arith) (λ h. omega arith)) c.known.ensures c.unwrap_or.ensures

@@ -4,4 +4,4 @@ use Rattle.notation.proofs.written.places_made.Given as goal
 use Rattle.rows.specs.Text.{named}
 
 abbrev pub invariant-loop-digit : goal.invariant-loop-digit
-invariant-loop-digit l = Placing l.stage.bells (map named l.digits) l.digit-index l.made l.last
+invariant-loop-digit l = Placing l.stage.bells (map named l.digits) l.digit-index l.made l.first l.last

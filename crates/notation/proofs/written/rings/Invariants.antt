@@ -1,9 +1,9 @@
-use Rattle.std.proofs.Common.{◌≡◌, ◌-◌, ◌≤◌, false, drop}
+use Rattle.std.proofs.Common.{◌≡◌, false, length}
 use Rattle.notation.proofs.written.rings.Given as goal
 use Rattle.notation.specs.Changes.{crosses}
 
-abbrev pub invariant-loop-p : goal.invariant-loop-p
-invariant-loop-p l = (l.p ≤ 12) × (crosses l.made false ≡ crosses (drop l.p l.made) l.crossed)
+abbrev pub invariant-loop-rest : goal.invariant-loop-rest
+invariant-loop-rest l = crosses l.made false ≡ crosses l.rest l.crossed
 
-abbrev pub decreases-loop-p : goal.decreases-loop-p
-decreases-loop-p l = 12 - l.p
+abbrev pub decreases-loop-rest : goal.decreases-loop-rest
+decreases-loop-rest l = length l.rest

@@ -1,4 +1,5 @@
-use Rattle.std.proofs.Common.{◌≡◌, ℕ, ◌<◌, List, map, get_or, sym, refl, ap, ◌∙◌, arith}
+use Rattle.std.proofs.lemmas.Option.{MatchOption-at_some}
+use Rattle.std.proofs.Common.{Some, ◌≡◌, ℕ, ◌<◌, List, map, get_or, sym, refl, ap, ◌∙◌, arith}
 use Rattle.rows.specs.Code.{fact, code, code_to, HasCode}
 use Rattle.rows.specs.Rows.{inverse}
 use Rattle.rows.proofs.Decoding.{decoded, decoded_only}
@@ -20,4 +21,7 @@ carried table e c l a h =
 
 pub returns : goal.returns
 unfolding inverted decoded code_to
-returns c = (omega arith, carried _ refl c.args.code (omega arith))
+returns c =
+    let some : c.get.result ≡ Some c.in_ok-inverse.inverse = grind arith in
+    let (within, read) = MatchOption-at_some _ _ _ some c.get.ensures.lookup.3 in
+    (within, λ a h. c.from.ensures ∙ read 0 ∙ carried _ refl c.args.code within a h)

@@ -1,25 +1,24 @@
-use Rattle.std.proofs.Common.{◌≡◌, ℕ, ◌<◌, List, length, get_or, ap, ◌∙◌, arith}
-use Rattle.rows.proofs.Raised.{raised_to, raised_at, raised_up, raised_not, raised_all}
+use Rattle.std.proofs.Common.{get_or, take, append-nil, arith}
+use Rattle.rows.proofs.Raised.{raised_all}
 use Rattle.rows.proofs.code.insert.Goals as goal
-use Rattle.rows.proofs.code.insert.Goals.{then-bells-i, else-bells-i}
+use Rattle.rows.proofs.code.insert.Goals.{then-other-bell, else-other-bell}
+use Rattle.rows.specs.Code.{raise}
+use Rattle.std.proofs.lemmas.Bool.Decides.{nat_tests}
+use Rattle.std.proofs.lemmas.List.{take_all, drop_all, get_or_default, set-get_or}
+use Rattle.std.proofs.lemmas.List.Edits.{map_over_more}
 
-pub overflow_add-bells : goal.overflow_add-bells
-overflow_add-bells c =
-    let a = c.args.bells.now in
-    let e = ap (λ (l : List ℕ). get_or l c.loop-i.i 0) c.loop-i.invariant in
-    omega (arith, e, raised_at c.args.bell c.loop-i.i a (omega arith), c.requires.by_index c.loop-i.i c.loop-i-test.true)
-
-pub loop-i-preserved : goal.loop-i-preserved
-loop-i-preserved c =
-    let a = c.args.bells.now in
-    let l : c.loop-i.i < length a = omega arith in
-    elim c.if-bells-i.branch [
-      | then-bells-i w ↦ w.bells-is ∙ raised_up c.args.bell c.loop-i.i a c.loop-i.bells l c.loop-i.invariant w.if-bells-i.true
-      | else-bells-i w ↦ w.bells-is ∙ raised_not c.args.bell c.loop-i.i a c.loop-i.bells l c.loop-i.invariant w.if-bells-i.false
+pub loop-other-preserved : goal.loop-other-preserved
+loop-other-preserved c =
+    let i = c.loop-other.other-index in
+    let ys = c.loop-other.other-items in
+    let x = get_or ys i 0 in
+    let more = map_over_more (raise c.args.bell) (take c.args.at c.args.bells.now) ys i x (omega arith) c.loop-other.invariant (get_or_default ys i 0 x (omega arith)) in
+    let same = set-get_or ys i 0 in
+    elim c.if-other-bell.branch [
+      | then-other-bell w ↦ let e = w.other-items-is in let t = w.if-other-bell.true in grind (arith, nat_tests)
+      | else-other-bell w ↦ let e = w.other-items-is in let t = w.if-other-bell.false in grind (arith, nat_tests)
     ]
 
 pub returns : goal.returns
 returns c =
-    let a = c.args.bells.now in
-    let e : c.loop-i.i ≡ c.args.at = omega arith in
-    raised_all c.args.bell c.args.at a c.loop-i.bells (omega arith) (c.loop-i.invariant ∙ ap (λ (i : ℕ). raised_to c.args.bell i a) e)
+    raised_all c.args.bell c.args.at c.args.bells.now c.loop-other.other-items (omega arith) (grind (arith, take_all, drop_all, append-nil))

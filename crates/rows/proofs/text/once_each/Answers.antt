@@ -1,22 +1,11 @@
-use Rattle.std.proofs.Common.{sym, arith}
-use Rattle.rows.proofs.Members.{no_row, row_from}
+use Rattle.std.proofs.Common.{eqb, sym, ◌∙◌, arith, rules, tests}
+use Rattle.rows.proofs.Counts.{is_row_by_single}
 use Rattle.rows.proofs.text.once_each.Goals as goal
-
-pub returns-then-bell-lt1 : goal.returns-then-bell-lt1
-returns-then-bell-lt1 c = no_row 12 _ (λ m.
-    let low = m.low c.loop-bell.bell-index (omega arith) in
-    let high = m.high c.loop-bell.bell-index (omega arith) in
-    omega arith)
-
-pub returns-then-times_held-ne1 : goal.returns-then-times_held-ne1
-returns-then-times_held-ne1 c = no_row 12 _ (λ m.
-    let once = m.once c.loop-bell-2.bell (omega arith) (omega arith) in
-    omega (arith, c.times_held.ensures))
+use Rattle.rows.specs.Rows.{count}
+use Rattle.std.proofs.lemmas.Iterator.{YieldsList-from_range}
+use Rattle.std.proofs.lemmas.Iterator.Search.{all_from_yields_List}
 
 pub returns : goal.returns
-returns c = sym (row_from 12 _ (record {
-  long = c.told-bells;
-  low = λ i l. (c.loop-bell.invariant i (omega arith)).0;
-  high = λ i l. (c.loop-bell.invariant i (omega arith)).1;
-  once = λ v lo hi. c.loop-bell-2.invariant v lo (omega arith);
-}))
+returns c =
+    all_from_yields_List (λ v. eqb (count v c.args.bells.now) 1) _ _ _ c.all.ensures.ran (YieldsList-from_range 1 13 12 (cc) (omega arith)) (λ x b q k. search (rules, tests))
+    ∙ sym (is_row_by_single 12 c.args.bells.now c.told-bells)

@@ -1,13 +1,12 @@
-use Rattle.std.proofs.Common.{◌≡◌, ◌+◌, ◌-◌, take, drop, ap, ◌∙◌, arith}
+use Rattle.std.proofs.Common.{rules}
+use Rattle.sheets.proofs.Cutting.{first_at, none_at}
 use Rattle.sheets.proofs.words.cut.Goals as goal
 use Rattle.std.proofs.lemmas.List.{take_rest}
 
+pub returns-in_err-at : goal.returns-in_err-at
+returns-in_err-at c = rw c.from_residual.ensures (none_at c.args.byte c.args.bytes.now (search rules))
+
 pub returns : goal.returns
 returns c =
-    let bytes = c.args.bytes.now in
-    let at = c.before-at.ensures.value in
-    let whole : c.before-at.result - 0 ≡ c.before-at.result = omega arith in (
-      omega (arith, c.before-at.ensures.within),
-      ap (λ k. take k bytes) (whole ∙ at),
-      take_rest bytes (c.before-at.result + 1) ∙ ap (λ k. drop (k + 1) bytes) at,
-    )
+    let first = first_at c.args.byte c.args.bytes.now c.in_ok-at.at (search rules) (search rules) (search rules) in
+    record { inside = rw first (search rules); front = rw first; back = rw (first, take_rest) }

@@ -1,12 +1,13 @@
-use Rattle.std.proofs.Common.{arith}
-use Rattle.sheets.proofs.Cutting.{last_found, none_at_end, none_before}
+use Rattle.std.proofs.Common.{rules}
+use Rattle.sheets.proofs.Cutting.{parted_at, none_at, none_behind}
 use Rattle.sheets.proofs.words.cut_last.Goals as goal
+use Rattle.std.proofs.lemmas.List.{take_rest}
 
-pub loop-at-init : goal.loop-at-init
-loop-at-init c = (omega arith, none_at_end c.args.byte c.args.bytes.now)
+pub returns-in_err-at : goal.returns-in_err-at
+returns-in_err-at c = rw c.from_residual.ensures (none_at c.args.byte c.args.bytes.now (search rules))
 
-pub returns-then-bytes-at : goal.returns-then-bytes-at
-returns-then-bytes-at c = last_found c.args.byte c.args.bytes.now c.loop-at.at (omega arith) (omega arith) c.loop-at.invariant.1 c.if-bytes-at.true
-
-pub loop-at-preserved : goal.loop-at-preserved
-loop-at-preserved c = (omega arith, none_before c.args.byte c.args.bytes.now c.loop-at.at (omega arith) (omega arith) c.loop-at.invariant.1 c.if-bytes-at.false)
+pub returns : goal.returns
+returns c =
+    let t = c.args.bytes.now in
+    let at = c.in_ok-at.at in
+    rw take_rest (parted_at c.args.byte t at (search rules) (search rules), none_behind c.args.byte t at (search rules))

@@ -1,10 +1,11 @@
-use Rattle.forms.proofs.Taking.{called_from, some_form}
+use Rattle.std.proofs.Common.{refl}
+use Rattle.forms.proofs.Taking.{got}
 use Rattle.forms.proofs.list.Forms.called_method.Goals as goal
 
-pub returns-in-Some : goal.returns-in-Some
-returns-in-Some g c f method none =
-    let there = c.in-Some.ensures in
-    some_form _ _ _ _ there.0 there.1 none
+pub returns-in_err-number_of : goal.returns-in_err-number_of
+returns-in_err-number_of g c = rw c.from_residual.ensures (λ f method _. c.in_err-number_of.ensures f method)
 
-pub returns-in-None : goal.returns-in-None
-returns-in-None g c = called_from _ _ _ c.number_of-in-None.result c.in-None.ensures c.number_of-in-None.ensures
+pub returns : goal.returns
+returns g c =
+    let f = got _ _ _ _ c.form.result c.in_ok-number_of.ensures c.form.ensures in
+    rw f.1 (f.2, c.if-not-is_free.ensures.0 refl)

@@ -1,8 +1,7 @@
-use Rattle.forms.proofs.Taking.{some_form}
 use Rattle.forms.proofs.list.Forms.takes_method.Goals as goal
-use Rattle.std.proofs.lemmas.Bool.{false≢true}
 
-pub returns-in-Some : goal.returns-in-Some
-returns-in-Some g c =
-    let there = c.in-Some.ensures in
-    (λ e. absurd (false≢true e), λ may. absurd (some_form _ _ _ _ there.0 there.1 may.2))
+pub returns-then-is_ascii_uppercase : goal.returns-then-is_ascii_uppercase
+returns-then-is_ascii_uppercase g c =
+    let range = c.if-is_ascii_uppercase.ensures.cases in
+    let free = c.is_free.ensures in
+    (λ t. (range.0, range.1, free.0 t), λ may. free.1 may.2)

@@ -18,12 +18,12 @@ loop-at-preserved c =
     let e : k + 1 - 1 ≡ k = omega arith in
     let w : c.loop-at.weight * k ≡ fact k = weight_next k c.loop-at.weight (omega arith) c.loop-at.invariant.0 in
     let d : c.loop-at.code ≡ code_to a k = c.loop-at.invariant.1 in
-    let g = c.greater_before.ensures in
+    let g = c.count_greater.ensures in
     let n = code_next a k in
     (w ∙ ap fact (sym e), cc)
 
 -- the code so far with the next place added is below 12!
-bounded : (c : goal.After-greater_before) → c.loop-at.code + c.greater_before.result * (c.loop-at.weight * c.loop-at.at) < 479001600
+bounded : (c : goal.After-count_greater) → c.loop-at.code + c.count_greater.result * (c.loop-at.weight * c.loop-at.at) < 479001600
 bounded c =
     let k = c.loop-at.at in
     omega (arith, (loop-at-preserved c).1, code_below c.args.self.now.bells (k + 1), fact_fits (k + 1) (omega arith))
