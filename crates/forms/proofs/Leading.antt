@@ -17,6 +17,18 @@ unfolding rows_from
 rows_long [] r = refl
 rows_long (c ∷ cs) r = ap suc (rows_long cs (rung c r))
 
+pub rows_first : (cs : List (List Bool)) (r : List ℕ) → get_or (rows_from cs r) 0 [] ≡ r
+unfolding rows_from
+rows_first [] r = refl
+rows_first (c ∷ cs) r = refl
+
+-- each row is the one before with its change rung
+pub rows_next : (cs : List (List Bool)) (r : List ℕ) (j : ℕ) → j < length cs → get_or (rows_from cs r) (suc j) [] ≡ rung (get_or cs j []) (get_or (rows_from cs r) j [])
+unfolding rows_from
+rows_next [] r j l = absurd (omega arith)
+rows_next (c ∷ cs) r zero l = rows_first cs (rung c r)
+rows_next (c ∷ cs) r (suc j) l = rows_next cs (rung c r) j (omega arith)
+
 -- one change more rings one row more
 rows_more : (cs : List (List Bool)) (r : List ℕ) (j : ℕ) → j < length cs → rows_from (take (suc j) cs) r ≡ rows_from (take j cs) r ++ rung (get_or cs j []) (get_or (rows_from (take j cs) r) j []) ∷ []
 unfolding rows_from

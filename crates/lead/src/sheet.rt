@@ -20,7 +20,12 @@ pub struct Sheet<'o> {
 }
 
 // An accepted form: its number, its turn and its rows.
-fn print_form(forms: &Forms<Open>, number: usize, out: &mut BufWriter<Stdout>) -> io::Result<()> {
+fn print_form(
+    word: &str,
+    forms: &Forms<Open>,
+    number: usize,
+    out: &mut BufWriter<Stdout>,
+) -> io::Result<()> {
     let Some(form) = forms.form(number) else {
         return Ok(());
     };
@@ -29,7 +34,7 @@ fn print_form(forms: &Forms<Open>, number: usize, out: &mut BufWriter<Stdout>) -
     let turn = form.turn();
     writeln!(
         out,
-        "form {number}, {count} changes, turn {}",
+        "{word}: form {number}, {count} changes, turn {}",
         turn.on(stage)
     )?;
     for (j, row) in form.rows().iter().enumerate() {
@@ -70,13 +75,13 @@ impl<'o> Sheet<'o> {
     ) -> io::Result<()>
         requires { F.IsAlwaysCallable form }
     {
-        write!(self.out, "{word}: ")?;
         let Some(forms) = &mut self.forms else {
-            return writeln!(self.out, "no stage yet");
+            self.out.write_all(word.as_bytes())?;
+            return self.out.write_all(b": no stage yet\n");
         };
         match form(forms) {
-            Ok(number) => print_form(forms, number, self.out),
-            Err(fault) => writeln!(self.out, "{}", Refused(&fault)),
+            Ok(number) => print_form(word, forms, number, self.out),
+            Err(fault) => writeln!(self.out, "{word}: {}", Refused(&fault)),
         }
     }
 

@@ -1,5 +1,5 @@
 -- A block that is whole: doubled if it says so, and held to the limit.
-use Rattle.std.proofs.Common.{◌≡◌, ℕ, ◌+◌, ◌<◌, ◌≤◌, Bool, true, false, cond, ltb, List, [], ◌∷◌, ◌++◌, map, length, drop, Some, None, Option, Ok, MatchOption, sym, refl, ap, ◌∙◌, subst, arith}
+use Rattle.std.proofs.Common.{◌≡◌, ℕ, ◌+◌, ◌<◌, ◌≤◌, Bool, true, false, cond, ltb, List, [], ◌∷◌, ◌++◌, map, length, drop, Ok, Err, sym, refl, ap, ◌∙◌, subst, arith}
 use Rattle.notation.proofs.Drafting.{listed_long, map_mirrored}
 use Rattle.notation.specs.Changes.{ascending, can_ring, made}
 use Rattle.notation.specs.Drafts.{Drafted, Holds, Whole, is_amp, listed, mirrored}
@@ -11,7 +11,6 @@ use Rattle.notation.specs.declared.changes.Changes.{Changes}
 use Rattle.notation.specs.declared.draft.Draft.{Draft}
 use Rattle.notation.specs.declared.fault.Fault.{Fault}
 use Rattle.notation.specs.declared.fault.Fault.TheVariants.{Many, Places, Unrung}
-use Rattle.std.specs.Option.{ok_or}
 use Rattle.std.proofs.lemmas.List.{append_assoc, drop_at, length-append, length-map, map-append, map_push}
 use Rattle.std.proofs.lemmas.Bool.{both_ways, cond-false, cond-true, le-ltb}
 
@@ -37,12 +36,11 @@ module _ (n : ℕ) (st : State) where
   pub whole_listed : (c : Changes) → listed c ≡ map (made n) (all_changes st) → Whole n st (Ok c)
   whole_listed c h = (omega (arith, ap length h, listed_long c, length-map (all_changes st) (made n), c.few), h)
 
-  -- a block with `&` has its changes doubled, or they are too many
-  pub whole_twice : (c : Changes) (b : ℕ) (o : Option Changes) (f : Fault) → listed c ≡ map (made n) (st.whole ++ st.block) → b ≡ length st.whole → is_amp st.sign ≡ true → f ≡ Many st.from
-      → MatchOption o (64 < c.count + length (mirrored (drop b (listed c)))) (λ all. listed all ≡ listed c ++ mirrored (drop b (listed c))) → Whole n st (ok_or o f)
-  whole_twice c b None f h at e is m =
-      (omega (arith, m, ap length (twice (listed c) b h at e), length-append (listed c) (mirrored (drop b (listed c))), listed_long c, length-map (all_changes st) (made n)), is)
-  whole_twice c b (Some all) f h at e is m = whole_listed all (m ∙ twice (listed c) b h at e)
+  -- a block with `&` whose changes have no room when they are doubled has too many
+  pub whole_many : (c : Changes) (b : ℕ) (f : Fault) → listed c ≡ map (made n) (st.whole ++ st.block) → b ≡ length st.whole → is_amp st.sign ≡ true → f ≡ Many st.from
+      → 64 < c.count + length (mirrored (drop b (listed c))) → Whole n st (Err f)
+  whole_many c b f h at e is m =
+      (omega (arith, ap length (twice (listed c) b h at e), length-append (listed c) (mirrored (drop b (listed c))), listed_long c, length-map (all_changes st) (made n)), is)
 
   -- the block is whole, and nothing of the next is read
   abbrev pub closed : ℕ → State

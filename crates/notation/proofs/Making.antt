@@ -2,7 +2,7 @@
 use Rattle.std.proofs.Common.{◌≡◌, ℕ, ◌+◌, ◌-◌, ◌%◌, ◌<◌, ◌≤◌, Bool, true, false, cond, ◌&&◌, ◌||◌, Some, None, Option, eqb, ltb, leb, ◌⊎◌, List, [], ◌∷◌, ◌++◌, length, get_or, take, drop, set, sym, refl, ap, ◌∙◌, ⊎_elim, arith}
 use Rattle.notation.specs.Changes.{ascend, last, has, making, made, crosses}
 use Rattle.std.proofs.lemmas.List.FromFn.{fill_by_all, get_or-map-range_with_len}
-use Rattle.std.proofs.lemmas.List.{append_assoc, append-nil, drop_all, drop_more, get_or-set_other, get_or-set_same, length-set, take_all, take_more, take_rest}
+use Rattle.std.proofs.lemmas.List.{append_assoc, append-nil, drop_all, drop_more, get_or-set_other, get_or-set_same, length-set, take_all, take_more}
 use Rattle.std.proofs.lemmas.Bool.{cases_eq, eq-eqb, ne_eqb, lt-ltb, le-ltb, le-leb, lt-leb, and_left, and_right}
 use Rattle.std.proofs.lemmas.Option.{same_Some}
 use Rattle.std.specs.List.{slice_get}
@@ -36,40 +36,40 @@ last_push : (a p : ℕ) (ps : List ℕ) → last a (ps ++ p ∷ []) ≡ p
 last_push a p [] = refl
 last_push a p (x ∷ ps) = last_push x p ps
 
--- what is left to read of a change comes to, by how it begins: nothing is left
-pub crosses_none : (ms : List Bool) (c : Bool) → length ms < 1 → crosses ms c ≡ c
-unfolding crosses
-crosses_none [] c l = refl
-crosses_none (m ∷ ms) c l = absurd (omega arith)
+module _ (m : List Bool) (p : ℕ) (crossed : Bool) (inside : p < length m) where
+  -- what is left begins with the place at p
+  here : (b : Bool) → get_or m p false ≡ b → drop p m ≡ b ∷ drop (p + 1) m
+  here b e = drop_more m p false inside ∙ ap (λ t. t ∷ drop (p + 1) m) e
 
--- a place made stays, and says nothing of those above
-pub crosses_stay : (ms : List Bool) (c d : Bool) → 1 ≤ length ms → get_or ms 0 d ≡ true → crosses ms c ≡ crosses (take (length ms - 1) (drop 1 ms)) c
-unfolding crosses
-crosses_stay [] c d l e = absurd (omega arith)
-crosses_stay (m ∷ ms) c d l e = ap (λ b. crosses (b ∷ ms) c) e ∙ ap (λ bs. crosses bs c) (sym (take_rest (m ∷ ms) 1))
+  -- a place made stays, and says nothing of those above
+  pub crosses_stay : get_or m p false ≡ true → crosses (drop p m) crossed ≡ crosses (drop (p + 1) m) crossed
+  unfolding crosses
+  crosses_stay e = ap (λ l. crosses l crossed) (here true e)
 
--- two places not made cross
-pub crosses_both : (ms : List Bool) (c d : Bool) → 2 ≤ length ms → get_or ms 0 d ≡ false → get_or ms 1 d ≡ false → crosses ms c ≡ crosses (take (length ms - 2) (drop 2 ms)) true
-unfolding crosses
-crosses_both [] c d l e f = absurd (omega arith)
-crosses_both (m ∷ []) c d l e f = absurd (omega arith)
-crosses_both (m ∷ m' ∷ ms) c d l e f = (λ i. crosses (e i ∷ f i ∷ ms) c) ∙ ap (λ bs. crosses bs true) (sym (take_rest (m ∷ m' ∷ ms) 2))
+  -- two places not made cross
+  pub crosses_both : p + 1 < length m → get_or m p false ≡ false → get_or m (p + 1) false ≡ false → crosses (drop p m) crossed ≡ crosses (drop (p + 2) m) true
+  unfolding crosses
+  crosses_both l e f =
+      let two : p + 1 + 1 ≡ p + 2 = omega arith in
+      let next : drop (p + 1) m ≡ false ∷ drop (p + 2) m = drop_more m (p + 1) false l ∙ (λ i. f i ∷ drop (two i) m) in
+      ap (λ l. crosses l crossed) (here false e ∙ ap (λ l. false ∷ l) next)
 
--- a place not made below one that is made is left over
-pub crosses_apart : (ms : List Bool) (c d : Bool) → 2 ≤ length ms → get_or ms 0 d ≡ false → get_or ms 1 d ≡ true → crosses ms c ≡ false
-unfolding crosses
-crosses_apart [] c d l e f = absurd (omega arith)
-crosses_apart (m ∷ []) c d l e f = absurd (omega arith)
-crosses_apart (m ∷ m' ∷ ms) c d l e f = λ i. crosses (e i ∷ f i ∷ ms) c
+  -- a place not made below one that is made is left over
+  pub crosses_apart : p + 1 < length m → get_or m p false ≡ false → get_or m (p + 1) false ≡ true → crosses (drop p m) crossed ≡ false
+  unfolding crosses
+  crosses_apart l e f =
+      let next : drop (p + 1) m ≡ true ∷ drop (p + 1 + 1) m = drop_more m (p + 1) false l ∙ ap (λ t. t ∷ drop (p + 1 + 1) m) f in
+      ap (λ l. crosses l crossed) (here false e ∙ ap (λ l. false ∷ l) next)
 
--- so is the highest place if it is not made, since nothing is left above it
-pub crosses_alone : (ms : List Bool) (c d : Bool) → 1 ≤ length ms → length ms < 2 → get_or ms 0 d ≡ false → crosses ms c ≡ false
-unfolding crosses
-crosses_alone [] c d l h e = absurd (omega arith)
-crosses_alone (m ∷ []) c d l h e = ap (λ b. crosses (b ∷ []) c) e
-crosses_alone (m ∷ m' ∷ ms) c d l h e = absurd (omega arith)
+  -- so is the highest place if it is not made, since nothing is left above it
+  pub crosses_alone : length m ≤ p + 1 → get_or m p false ≡ false → crosses (drop p m) crossed ≡ false
+  unfolding crosses
+  crosses_alone l e = ap (λ l. crosses l crossed) (here false e ∙ ap (λ l. false ∷ l) (drop_all (p + 1) m l))
 
-pub ruleset crossings = (crosses_none, crosses_stay, crosses_both, crosses_apart, crosses_alone)
+-- at the end nothing is left to read, so it is known whether a pair has crossed
+pub crosses_end : (m : List Bool) (p : ℕ) (crossed : Bool) → length m ≤ p → crosses (drop p m) crossed ≡ crossed
+unfolding crosses
+crosses_end m p crossed l = ap (λ l. crosses l crossed) (drop_all p m l)
 
 -- the first i places written are made; f is the first of them and p the last; and the rest ascends above p if all do
 pub record Placing (n : ℕ) (ws : List ℕ) (i : ℕ) (m : List Bool) (f : Option ℕ) (p : ℕ) : Type 0 where

@@ -46,15 +46,17 @@ impl Changes {
         Ok(())
     }
 
-    // These changes, and again those from this one on except the last, backwards, unless that is more than 64.
-    pub(crate) fn doubled(self, from: usize) -> Option<Changes>
-        requires { from ≤ self.count }
-        ensures { let again = mirrored (drop from (listed self)) in MatchOption result (64 < self.count + length again) (λ all. listed all ≡ listed self ++ again) }
+    // Adds again the changes from this one on except the last, backwards, unless there is no room for them.
+    pub(crate) fn double(&mut self, from: usize) -> Option<()>
+        requires { from ≤ self.old.count }
+        ensures again { let again = mirrored (drop from (listed self.old)) in MatchOption result (64 < self.old.count + length again) (λ _. listed self.new ≡ listed self.old ++ again) }
+        ensures longer { self.old.count ≤ self.new.count }
     {
-        let mut all = self;
-        for change in self.as_slice()[from..].iter().rev().skip(1) {
-            all.push(*change).ok()?;
+        let end = self.count;
+        for back in 1..end - from {
+            let change = self.list[end - 1 - back];
+            self.push(change).ok()?;
         }
-        Some(all)
+        Some(())
     }
 }

@@ -37,7 +37,7 @@ pub struct Draft {
 
 impl Draft {
     ghost use Rattle.std.specs.Prelude.{◌≡◌, ℕ, ◌-◌, ◌^◌, ◌<◌, map, OnOk};
-    ghost use Rattle.notation.specs.Drafts.{Drafted, Steps, Whole, Answers, stepped, seen_behind, position, finished};
+    ghost use Rattle.notation.specs.Drafts.{Drafted, Steps, Answers, stepped, seen_behind, position, finished};
     ghost use Rattle.notation.specs.Reading.{State, start, add, close};
     ghost use Rattle.notation.specs.declared.draft.Seen.TheVariants.{Fresh};
     ghost use Rattle.rows.specs.Text.{named};
@@ -69,26 +69,15 @@ impl Draft {
         Ok(())
     }
 
-    // All changes with this block, doubled if it says so.
-    fn whole(&self) -> Result<Changes, Fault>
-        ensures { (n : ℕ) (st : State) → Drafted n self.now st → Whole n st result }
-    {
-        let many = Fault::Many(self.from);
-        let changes = self.changes.ok_or(many)?;
-        if self.doubles {
-            changes.doubled(self.block).ok_or(many)
-        } else {
-            Ok(changes)
-        }
-    }
-
     // This block is whole, and the next begins at this byte.
     fn close(&mut self, next: usize) -> Result<(), Fault>
         ensures { (n : ℕ) (st : State) → Drafted n self.old st → Steps n (close next st) result self.new }
     {
-        let whole = self.whole()?;
-        self.block = whole.count;
-        self.changes = Some(whole);
+        let changes = self.changes.as_mut().ok_or(Fault::Many(self.from))?;
+        if self.doubles {
+            changes.double(self.block).ok_or(Fault::Many(self.from))?;
+        }
+        self.block = changes.count;
         self.from = next;
         self.doubles = false;
         Ok(())
@@ -127,12 +116,16 @@ impl Draft {
     }
 
     // The text ends here.
-    pub(crate) fn finish(self, at: usize) -> Result<Changes, Fault>
+    pub(crate) fn finish(mut self, at: usize) -> Result<Changes, Fault>
         ensures { (n : ℕ) (st : State) → Drafted n self st → Answers n (finished at self.seen st) result }
     {
         match self.seen {
             Seen::Fresh | Seen::Signed | Seen::Pointed => Err(Fault::Early(at)),
-            Seen::Crossed | Seen::Ran => self.whole(),
+            Seen::Crossed | Seen::Ran => {
+                self.close(at)?;
+                // a block that closes leaves its changes in hand
+                self.changes.ok_or(Fault::Many(at))
+            }
         }
     }
 }

@@ -9,12 +9,20 @@ use crate::fault::Fault;
 use rows::stage::Stage;
 use rows::text::bell_named;
 
+// Twelve places not made, and behind them twelve made.
+const EDGE: [bool; 24] = [
+    false, false, false, false, false, false, false, false, false, false, false, false, true, true,
+    true, true, true, true, true, true, true, true, true, true,
+];
+
 // No place made but those of the covers.
 fn covers(stage: Stage) -> [bool; 12]
     ensures { result ≡ making stage.bells [] }
 {
+    let n = stage.bells as usize;
     let mut made = [false; 12];
-    made[stage.bells as usize..].fill(true);
+    // twelve of them on every stage, so that this is a copy of fixed size
+    made.copy_from_slice(&EDGE[12 - n..24 - n]);
     made
 }
 
@@ -46,23 +54,25 @@ fn places_made(stage: Stage, digits: &[u8]) -> Option<[bool; 12]>
 }
 
 // Whether no place is left over and some pair crosses.
-#[tactic(auto, using(crate::proofs::Making::crossings), unfolding(crate::specs::Changes::can_ring))]
 fn rings(made: &[bool; 12]) -> bool
     ensures { result ≡ can_ring made.now }
 {
     let mut crossed = false;
-    let mut rest = made.as_slice();
-    loop {
-        match rest {
-            [] => return crossed,
-            [true, above @ ..] => rest = above,
-            [false, false, above @ ..] => {
-                crossed = true;
-                rest = above;
-            }
-            [false, ..] => return false,
+    let mut p = 0;
+    // a step is one place or two, which `for` does not go
+    while let Some(stays) = made.get(p) {
+        if *stays {
+            p += 1;
+        } else if let Some(next) = made.get(p + 1)
+            && !*next
+        {
+            crossed = true;
+            p += 2;
+        } else {
+            return false;
         }
     }
+    crossed
 }
 
 impl Change {
@@ -70,7 +80,9 @@ impl Change {
     pub fn written(stage: Stage, digits: &[u8], at: usize) -> Result<Change, Fault>
         ensures { Written stage.bells (map named digits.now) at result }
     {
-        let made = places_made(stage, digits).ok_or(Fault::Places(at))?;
+        let Some(made) = places_made(stage, digits) else {
+            return Err(Fault::Places(at));
+        };
         if !rings(&made) {
             return Err(Fault::Unrung(at));
         }

@@ -1,9 +1,12 @@
 -- A row and its text lead back to each other.
-use Rattle.std.proofs.Common.{◌≡◌, ℕ, suc, ◌+◌, ◌-◌, ◌<◌, ◌≤◌, List, length, get_or, take, sym, ap, ◌∙◌, subst, ⊎_elim, arith}
+use Rattle.std.proofs.Common.{◌≡◌, ℕ, zero, suc, ◌+◌, ◌-◌, ◌<◌, ◌≤◌, List, [], ◌∷◌, map, length, get_or, take, Ok, Err, Result, MatchResult, sym, refl, ap, ◌∙◌, subst, ⊎_elim, arith}
 use Rattle.rows.proofs.Members.{member}
 use Rattle.rows.specs.Rows.{RowOf, On}
 use Rattle.rows.specs.Text.{named, character, spelled}
-use Rattle.std.proofs.lemmas.List.{ext_get_or, get_or-map, get_or-take, length-map, length-take-le}
+use Rattle.std.proofs.lemmas.List.{ext_get_or, get_or-map, get_or-take, length-map, length-take-le, take-map}
+use Rattle.std.proofs.lemmas.Str.{IsUtf8-from_ascii}
+use Rattle.std.specs.Result.{IsOk}
+use Rattle.std.specs.Str.{IsAscii, IsUtf8}
 use Rattle.std.proofs.lemmas.Bool.{cases_lt}
 use Rattle.std.proofs.lemmas.Bool.Decides.{nat_tests}
 
@@ -12,6 +15,23 @@ named_character v lo hi = grind (arith, nat_tests)
 
 pub character_named : (b : ℕ) → 1 ≤ named b → character (named b) ≡ b
 character_named b h = grind (arith, nat_tests)
+
+character_small : (v : ℕ) → character v < 128
+character_small v = grind (arith, nat_tests)
+
+characters_ascii : (a : List ℕ) → IsAscii (map character a)
+characters_ascii [] i = omega arith
+characters_ascii (x ∷ xs) zero = character_small x
+characters_ascii (x ∷ xs) (suc i) = characters_ascii xs i
+
+-- the first n characters of a row are a text, since each is one byte of ASCII
+pub spelled_utf8 : (n : ℕ) (a : List ℕ) → IsUtf8 (take n (map character a))
+spelled_utf8 n a = IsUtf8-from_ascii _ (subst IsAscii (sym (take-map character n a)) (characters_ascii (take n a)))
+
+-- an answer that can be no error is a value
+pub no_error : {T E : Type 0} (r : Result T E) (P : T → Type 0) (Q : E → Type 0) → ((e : E) → Q e → ⊥) → MatchResult r P Q → IsOk r
+no_error (Ok x) P Q never m = refl
+no_error (Err e) P Q never m = absurd (never e m)
 
 -- the bells that a text names on n bells, with the covers behind them
 pub record Named (n : ℕ) (t a : List ℕ) : Type 0 where

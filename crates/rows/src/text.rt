@@ -7,7 +7,7 @@ ghost use Rattle.rows.specs.declared.fault.RowFault.TheVariants.{Row as NoRow};
 use crate::fault::RowFault;
 use crate::row::Row;
 use crate::stage::Stage;
-use std::fmt;
+use std::{fmt, str};
 
 // The bell, or the place, that a byte names.
 pub fn bell_named(byte: u8) -> Option<u8>
@@ -35,10 +35,10 @@ fn bell_character(bell: u8) -> u8
 }
 
 // How often a bell stands there.
-fn times_held(bells: &[u8; 12], bell: u8) -> usize
+fn times_held(bells: &[u8; 12], bell: u8) -> u8
     ensures { result ≡ count bell bells.now }
 {
-    bells.iter().filter(|other| **other == bell).count()
+    bells.iter().map(|other| u8::from(*other == bell)).sum()
 }
 
 // Whether the bells 1 to 12 stand there once each.
@@ -94,10 +94,10 @@ impl fmt::Display for Spelled {
     ghost output = { λ s. Some (spelled s.stage.bells s.row.bells) };
 
     fn fmt<W: fmt::Write>(&self, f: &mut fmt::Formatter<W>) -> fmt::Result {
-        for bell in &self.row.bells[..self.stage.bells as usize] {
-            f.write_char(char::from(bell_character(*bell)))?;
-        }
-        Ok(())
+        let characters = self.row.characters();
+        // all at once, since a write a bell takes longer; each is one byte of ASCII
+        let text = str::from_utf8(&characters[..self.stage.bells as usize]).unwrap();
+        f.write_str(text)
     }
 }
 

@@ -1,4 +1,4 @@
-// What every program over a sheet shares: reading the sheet, cutting it into lines and words, and printing refusals and rows.
+// What every program over a sheet shares: reading the sheet, cutting it into lines and words, and printing refusals.
 #![tactic(auto)]
 
 pub mod input;

@@ -8,6 +8,7 @@ use std::alloc::{AllocError, Global};
 
 #[derive(Drop)]
 pub struct Memory {
+    heap: Global,
     chance: Chance,
     pub nodes: Vec<Node>,
     pub cells: Vec<Cell>,
@@ -36,17 +37,20 @@ impl Memory {
         ensures cells { vec_len result.cells ≡ 0 }
     {
         Memory {
+            heap,
             chance: Chance::new(),
             nodes: Vec::new(heap),
             cells: Vec::new(heap),
         }
     }
 
-    // New memory, full of garbage.
+    // New memory, full of garbage. What was lent before goes back first, so that the two are never held together.
     pub fn lend(&mut self, nodes: u32, cells: u32) -> Result<(), AllocError>
         ensures nodes { OnOk result (vec_len self.new.nodes ≡ nodes) }
         ensures cells { OnOk result (vec_len self.new.cells ≡ cells) }
     {
+        self.nodes = Vec::new(self.heap);
+        self.cells = Vec::new(self.heap);
         let chance = &mut self.chance;
         refill(&mut self.nodes, nodes, || chance.node(nodes))?;
         refill(&mut self.cells, cells, || chance.cell(cells))

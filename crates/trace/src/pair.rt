@@ -1,4 +1,4 @@
-// A search tree and a rank table side by side, to which the same calls are made.
+// Two registers side by side, to which the same calls are made.
 ghost use Rattle.registers.specs.Entries.{marked, entering, entered, taking, taken};
 ghost use Rattle.registers.specs.Shelves.{tree_shelf, table_shelf, empty_tree, empty_table};
 ghost use Rattle.std.specs.Prelude.{◌≡◌, length, vec_len};
@@ -13,14 +13,14 @@ use registers::register::Register;
 use registers::tree::search_tree::SearchTree;
 
 #[derive(Drop)]
-pub struct Pair<'m, K> {
-    pub tree: SearchTree<'m, K>,
-    pub rank: RankTable<'m, K>,
+pub struct Pair<T, R> {
+    pub tree: T,
+    pub rank: R,
 }
 
-impl<'m, K: Key> Pair<'m, K> {
-    // Two fresh registers over the lent memory.
-    pub fn over(memory: &'m mut Memory) -> Pair<'m, K>
+impl<'m, K: Key> Pair<SearchTree<'m, K>, RankTable<'m, K>> {
+    // A fresh search tree and a fresh rank table over the lent memory.
+    pub fn over(memory: &'m mut Memory) -> Pair<SearchTree<'m, K>, RankTable<'m, K>>
         ensures tree { tree_shelf result.tree ≡ empty_tree (vec_len memory.old.nodes) }
         ensures rank { table_shelf result.rank ≡ empty_table (vec_len memory.old.cells) }
     {
@@ -29,10 +29,16 @@ impl<'m, K: Key> Pair<'m, K> {
             rank: RankTable::new(&mut memory.cells),
         }
     }
+}
 
-    pub fn room(&self) -> Both<Room>
-        ensures tree { (result.tree.reach ≡ (tree_shelf self.now.tree).reach) × (result.tree.capacity ≡ (tree_shelf self.now.tree).capacity) }
-        ensures rank { (result.rank.reach ≡ (table_shelf self.now.rank).reach) × (result.rank.capacity ≡ (table_shelf self.now.rank).capacity) }
+// What is said of the answers is what each register means, whichever it is.
+impl<T, R> Pair<T, R> {
+    pub fn room<K: Key>(&self) -> Both<Room>
+    where
+        T: Register<K>,
+        R: Register<K>,
+        ensures tree { (result.tree.reach ≡ (T.Register.shelf self.now.tree).reach) × (result.tree.capacity ≡ (T.Register.shelf self.now.tree).capacity) }
+        ensures rank { (result.rank.reach ≡ (R.Register.shelf self.now.rank).reach) × (result.rank.capacity ≡ (R.Register.shelf self.now.rank).capacity) }
     {
         Both {
             tree: Room {
@@ -46,11 +52,18 @@ impl<'m, K: Key> Pair<'m, K> {
         }
     }
 
-    pub fn enter(&mut self, key: &K, mark: u32) -> Both<Answer<Result<Entered, RegisterFault>>>
-        ensures tree { result.tree.0 ≡ entering (tree_shelf self.old.tree) (K.Key.code key.now) }
-        ensures rank { result.rank.0 ≡ entering (table_shelf self.old.rank) (K.Key.code key.now) }
-        ensures tree_after { tree_shelf self.new.tree ≡ entered result.tree.0 (record { code = K.Key.code key.now; mark = mark }) (tree_shelf self.old.tree) }
-        ensures rank_after { table_shelf self.new.rank ≡ entered result.rank.0 (record { code = K.Key.code key.now; mark = mark }) (table_shelf self.old.rank) }
+    pub fn enter<K: Key>(
+        &mut self,
+        key: &K,
+        mark: u32,
+    ) -> Both<Answer<Result<Entered, RegisterFault>>>
+    where
+        T: Register<K>,
+        R: Register<K>,
+        ensures tree { result.tree.0 ≡ entering (T.Register.shelf self.old.tree) (K.Key.code key.now) }
+        ensures rank { result.rank.0 ≡ entering (R.Register.shelf self.old.rank) (K.Key.code key.now) }
+        ensures tree_after { T.Register.shelf self.new.tree ≡ entered result.tree.0 (record { code = K.Key.code key.now; mark = mark }) (T.Register.shelf self.old.tree) }
+        ensures rank_after { R.Register.shelf self.new.rank ≡ entered result.rank.0 (record { code = K.Key.code key.now; mark = mark }) (R.Register.shelf self.old.rank) }
     {
         Both {
             tree: Answer(self.tree.enter(key, mark)),
@@ -58,9 +71,12 @@ impl<'m, K: Key> Pair<'m, K> {
         }
     }
 
-    pub fn find(&self, key: &K) -> Both<Answer<Option<u32>>>
-        ensures tree { result.tree.0 ≡ marked (K.Key.code key.now) (tree_shelf self.now.tree).entries }
-        ensures rank { result.rank.0 ≡ marked (K.Key.code key.now) (table_shelf self.now.rank).entries }
+    pub fn find<K: Key>(&self, key: &K) -> Both<Answer<Option<u32>>>
+    where
+        T: Register<K>,
+        R: Register<K>,
+        ensures tree { result.tree.0 ≡ marked (K.Key.code key.now) (T.Register.shelf self.now.tree).entries }
+        ensures rank { result.rank.0 ≡ marked (K.Key.code key.now) (R.Register.shelf self.now.rank).entries }
     {
         Both {
             tree: Answer(self.tree.find(key)),
@@ -68,9 +84,12 @@ impl<'m, K: Key> Pair<'m, K> {
         }
     }
 
-    pub fn count(&self) -> Both<usize>
-        ensures tree { result.tree ≡ length (tree_shelf self.now.tree).entries }
-        ensures rank { result.rank ≡ length (table_shelf self.now.rank).entries }
+    pub fn count<K: Key>(&self) -> Both<usize>
+    where
+        T: Register<K>,
+        R: Register<K>,
+        ensures tree { result.tree ≡ length (T.Register.shelf self.now.tree).entries }
+        ensures rank { result.rank ≡ length (R.Register.shelf self.now.rank).entries }
     {
         Both {
             tree: self.tree.count(),
@@ -78,11 +97,14 @@ impl<'m, K: Key> Pair<'m, K> {
         }
     }
 
-    pub fn take_back(&mut self) -> Both<Answer<Result<u32, RegisterFault>>>
-        ensures tree { result.tree.0 ≡ taking (tree_shelf self.old.tree) }
-        ensures rank { result.rank.0 ≡ taking (table_shelf self.old.rank) }
-        ensures tree_after { tree_shelf self.new.tree ≡ taken (tree_shelf self.old.tree) }
-        ensures rank_after { table_shelf self.new.rank ≡ taken (table_shelf self.old.rank) }
+    pub fn take_back<K: Key>(&mut self) -> Both<Answer<Result<u32, RegisterFault>>>
+    where
+        T: Register<K>,
+        R: Register<K>,
+        ensures tree { result.tree.0 ≡ taking (T.Register.shelf self.old.tree) }
+        ensures rank { result.rank.0 ≡ taking (R.Register.shelf self.old.rank) }
+        ensures tree_after { T.Register.shelf self.new.tree ≡ taken (T.Register.shelf self.old.tree) }
+        ensures rank_after { R.Register.shelf self.new.rank ≡ taken (R.Register.shelf self.old.rank) }
     {
         Both {
             tree: Answer(self.tree.take_back()),

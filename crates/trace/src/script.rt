@@ -7,6 +7,8 @@ use crate::memory::Memory;
 use crate::pair::Pair;
 use crate::written::{NoKey, Written};
 use registers::clash::ClashKey;
+use registers::rank::rank_table::RankTable;
+use registers::tree::search_tree::SearchTree;
 use rows::row::Row;
 use sheets::print::not_understood;
 use sheets::words::Lines;
@@ -69,8 +71,8 @@ impl<'s, 'o> Script<'s, 'o> {
         ensures { IfOk result (λ next. ComesNext self.old.lines.rest.now next self.new.lines.rest.now) }
     {
         let Script { memory, lines, out } = self;
-        let mut pair = Pair::<K>::over(memory);
-        writeln!(out, "{word}: {}", pair.room())?;
+        let mut pair = Pair::<SearchTree<'_, K>, RankTable<'_, K>>::over(memory);
+        writeln!(out, "{word}: {}", pair.room::<K>())?;
         while let Some(line) = lines.next() {
             match parse(line) {
                 Command::Blank => {}
@@ -82,8 +84,8 @@ impl<'s, 'o> Script<'s, 'o> {
                     let answers = K::read(key).map(|key| pair.find(&key));
                     print_answers("find", answers, out)?;
                 }
-                Command::Count => writeln!(out, "count: {}", pair.count())?,
-                Command::Back => writeln!(out, "back: {}", pair.take_back())?,
+                Command::Count => writeln!(out, "count: {}", pair.count::<K>())?,
+                Command::Back => writeln!(out, "back: {}", pair.take_back::<K>())?,
                 Command::Unknown { word } => not_understood(word, out)?,
                 end @ (Command::Lend { .. } | Command::Rows | Command::Clashes) => {
                     return Ok(Some(end));

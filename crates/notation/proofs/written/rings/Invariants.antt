@@ -1,9 +1,9 @@
-use Rattle.std.proofs.Common.{◌≡◌, false, length}
+use Rattle.std.proofs.Common.{◌≡◌, ◌-◌, ◌≤◌, false, drop}
 use Rattle.notation.proofs.written.rings.Given as goal
 use Rattle.notation.specs.Changes.{crosses}
 
-abbrev pub invariant-loop-rest : goal.invariant-loop-rest
-invariant-loop-rest l = crosses l.made false ≡ crosses l.rest l.crossed
+abbrev pub invariant-loop-stays : goal.invariant-loop-stays
+invariant-loop-stays l = (l.p ≤ 12) × (crosses l.made false ≡ crosses (drop l.p l.made) l.crossed)
 
-abbrev pub decreases-loop-rest : goal.decreases-loop-rest
-decreases-loop-rest l = length l.rest
+abbrev pub decreases-loop-stays : goal.decreases-loop-stays
+decreases-loop-stays l = 12 - l.p

@@ -17,9 +17,6 @@ product c =
     let long = (member 12 _ c.args.other.now.once).long in
     mapped (bell_in c.args.self.now.bells) c.map-bells.ensures.items (omega arith) (λ x y q k. search rules)
 
-pub invariant_of-result : goal.invariant_of-result
-invariant_of-result c = record { once = subst (RowOf 12) (sym (product c)) (times_row 12 _ _ c.args.self.now.once c.args.other.now.once) }
-
 pub returns : goal.returns
 returns c =
     let is = product (goal.at.returns c).After-map-bells in
@@ -28,3 +25,6 @@ returns c =
       stage = λ n s o. subst (On n) (sym is) (times_on n _ _ (member 12 _ c.args.other.now.once).long s o);
       associative = λ d r. rw is (associative 12 _ _ d (member 12 _ c.args.other.now.once).long r);
     }
+
+pub invariant_of-result : goal.invariant_of-result
+invariant_of-result c = record { once = subst (RowOf 12) (sym (product (goal.at.invariant_of-result c).After-map-bells)) (times_row 12 _ _ c.args.self.now.once c.args.other.now.once) }
