@@ -76,6 +76,7 @@ impl<'o> Sheet<'o> {
         requires { F.IsAlwaysCallable form }
     {
         let Some(forms) = &mut self.forms else {
+            // as bytes, since a formatted write takes longer
             self.out.write_all(word.as_bytes())?;
             return self.out.write_all(b": no stage yet\n");
         };

@@ -31,7 +31,7 @@ impl<'m, K: Key> Pair<SearchTree<'m, K>, RankTable<'m, K>> {
     }
 }
 
-// What is said of the answers is what each register means, whichever it is.
+// Each answer is the one that the register's shelf gives, whichever register it is.
 impl<T, R> Pair<T, R> {
     pub fn room<K: Key>(&self) -> Both<Room>
     where
