@@ -1,5 +1,5 @@
 -- The changes that are listed, and one more.
-use Rattle.std.proofs.Common.{◌≡◌, ℕ, ◌+◌, ◌-◌, ◌<◌, ◌≤◌, Bool, true, false, List, [], ◌∷◌, ◌++◌, map, reverse, length, get_or, take, drop, Some, None, Option, Ok, Err, Result, MatchOption, sym, refl, ap, ◌∙◌, arith}
+use Rattle.std.proofs.Common.{◌≡◌, ℕ, ◌+◌, ◌-◌, ◌<◌, ◌≤◌, Bool, true, false, List, [], ◌∷◌, ◌++◌, map, reverse, length, get_or, take, drop, Ok, Err, Result, sym, refl, ap, ◌∙◌, arith}
 use mathlib.Core.List.{reverse_aux}
 use Rattle.notation.specs.Drafts.{listed, mirrored}
 use Rattle.notation.specs.declared.change.Change.{Change}
@@ -55,12 +55,3 @@ handed_back A B (Err x) e m = (x, m)
 pub taken : (A : Type 0) (B : Change → Type 0) (r : Result (Unit {0}) Change) → is_ok r ≡ true → MatchResult r (λ _. A) B → A
 taken A B (Ok u) e m = m
 taken A B (Err x) e m = cc
-
--- changes are doubled where there is room, and not where there is none
-pub no_room : (A B : Type 0) (o : Option (Unit {0})) → o ≡ None → MatchOption o A (λ _. B) → A
-no_room A B None e m = m
-no_room A B (Some u) e m = cc
-
-pub room : (A B : Type 0) (u : Unit {0}) (o : Option (Unit {0})) → o ≡ Some u → MatchOption o A (λ _. B) → B
-room A B u None e m = cc
-room A B u (Some x) e m = m

@@ -15,7 +15,7 @@ impl Change {
     {
         let mut bells = row.bells;
         let mut p = 0;
-        // a step is one place or two, which `for` does not go
+        // a step is one place or two, so this is no `for`
         while p < 12 {
             if self.made[p] {
                 p += 1;

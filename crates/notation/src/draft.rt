@@ -123,7 +123,7 @@ impl Draft {
             Seen::Fresh | Seen::Signed | Seen::Pointed => Err(Fault::Early(at)),
             Seen::Crossed | Seen::Ran => {
                 self.close(at)?;
-                // a block that closes leaves its changes in hand
+                // a block that closes has its changes, so this is no fault
                 self.changes.ok_or(Fault::Many(at))
             }
         }

@@ -59,7 +59,7 @@ fn rings(made: &[bool; 12]) -> bool
 {
     let mut crossed = false;
     let mut p = 0;
-    // a step is one place or two, which `for` does not go
+    // a step is one place or two, so this is no `for`
     while let Some(stays) = made.get(p) {
         if *stays {
             p += 1;
